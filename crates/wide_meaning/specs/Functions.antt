@@ -1,10 +1,17 @@
 -- Functions and methods that need no look-up.
-use Rattle.std.specs.Prelude.{ℕ, zero, pos, Bool, true, false, ◌&&◌, ◌||◌, List, [], ◌∷◌, Option, Some, None, find, bytes_eq, codes, if◌then◌else◌}
+use Rattle.std.specs.Prelude.{ℕ, zero, pos, Bool, true, false, ◌&&◌, ◌||◌, List, [], ◌∷◌, Option, Some, None, find}
+use Rattle.std.specs.Prelude.{bytes_eq, codes, if◌then◌else◌}
 use Rattle.std.specs.Option.{option_or}
 use Rattle.cel_reader.specs.Words.{is_one_of}
-use Rattle.value_store.specs.Value.{Value, ValueOrError, error, value, null, boolean, int, text, list, map, Items, no_items, item, no_entries, list_of}
+use Rattle.value_store.specs.Value.{Value, ValueOrError, error, value, null, boolean, int, text, list, map, Items}
+use Rattle.value_store.specs.Value.{no_items, item, no_entries, list_of}
 use Rattle.value_store.specs.Lookup.{has_item}
+use Rattle.cel_macros.specs.Arithmetic.{difference_of}
+use Rattle.cel_macros.specs.Comparison.{less_equal_of, greater_equal_of}
 use Rattle.cel_macros.specs.Functions.{size_of, string_of, text_test_of}
+use Rattle.cel_macros.specs.Macros.{macro_of}
+use Rattle.cel_macros.specs.Selection.{index_of}
+use Rattle.cel_macros.specs.declared.macros.Macro.{TheVariants.All, TheVariants.Filter}
 use Rattle.cel_macros.specs.declared.text_test.TextTest.TheVariants as test
 use Rattle.wide_meaning.specs.declared.function.Function.{Function}
 use Rattle.wide_meaning.specs.declared.function.Function.TheVariants as function
@@ -12,7 +19,8 @@ use Rattle.wide_meaning.specs.declared.function.Method.{Method}
 use Rattle.wide_meaning.specs.declared.function.Method.TheVariants as method
 use Rattle.wide_meaning.specs.declared.function.Qualified.{Qualified}
 use Rattle.wide_meaning.specs.declared.function.Qualified.TheVariants as qualified
-use Rattle.wide_meaning.specs.Outcome.{Outcome, failed, plain, absent, present, outcome_of, plain_part, some_of, is_present, value_in, value_or, first_of}
+use Rattle.wide_meaning.specs.Outcome.{Outcome, failed, plain, absent, present, outcome_of, plain_part, some_of}
+use Rattle.wide_meaning.specs.Outcome.{is_present, value_in, value_or, first_of}
 
 -- ---- names
 
@@ -39,6 +47,8 @@ method_name method.OrValue = codes "orValue"
 method_name method.Or = codes "or"
 method_name method.First = codes "first"
 method_name method.Last = codes "last"
+method_name method.Min = codes "min"
+method_name method.Max = codes "max"
 
 -- the method of a text with this name, if any
 unfoldable pub text_method : List ℕ → Option Method
@@ -50,7 +60,7 @@ optional_method n = find (λ m. bytes_eq (method_name m) n) (method.HasValue ∷
 
 -- the method of a list with this name, if any
 unfoldable pub list_method : List ℕ → Option Method
-list_method n = find (λ m. bytes_eq (method_name m) n) (method.First ∷ method.Last ∷ [])
+list_method n = find (λ m. bytes_eq (method_name m) n) (method.First ∷ method.Last ∷ method.Min ∷ method.Max ∷ [])
 
 -- the method with this name, if any
 unfoldable pub method_named : List ℕ → Option Method
@@ -162,21 +172,28 @@ qualified_in _ xs r = r
 
 -- ---- methods
 
--- the first item
-abbrev pub first_item : List Value → Outcome
-first_item [] = absent
-first_item (v ∷ vs) = present v
+-- the first item, if there is one (cel-go, ext/lists.go)
+abbrev pub first_item : Items → Outcome
+first_item no_items = absent
+first_item (item v more) = present v
 
--- the last item
-abbrev pub last_item : List Value → Outcome
-last_item [] = absent
-last_item (v ∷ []) = present v
-last_item (v ∷ w ∷ vs) = last_item (w ∷ vs)
+-- the item at the size - 1, if there is one; the error if that is no int of 64 bits (cel-go, ext/lists.go)
+abbrev pub last_item : Items → Outcome
+last_item no_items = absent
+last_item (item v more) =
+    let x : ValueOrError = value (list (item v more)) in some_of (outcome_of (index_of x (difference_of (size_of x) (value (int (pos 1))))))
 
 -- an item of a list; the error for all else
-abbrev pub item_of : (List Value → Outcome) → ValueOrError → Outcome
-item_of f (value (list is)) = f (list_of is)
+abbrev pub item_of : (Items → Outcome) → ValueOrError → Outcome
+item_of f (value (list is)) = f is
 item_of f _ = failed
+
+-- The first item of a list that is in this order with each item. The error if two items have no order, if there is no
+-- item, and for all else (Kubernetes, library/lists.go)
+abbrev pub extreme_of : (ValueOrError → ValueOrError → ValueOrError) → ValueOrError → ValueOrError
+extreme_of order (value (list is)) =
+    index_of (macro_of Filter (λ v. macro_of All (λ w. order (value v) (value w)) (list_of is)) (list_of is)) (value (int (pos 0)))
+extreme_of order _ = error
 
 -- a method applied to its operands; r for another number of them
 abbrev pub method_in : Method → Outcome → List Outcome → Outcome → Outcome
@@ -190,4 +207,6 @@ method_in method.OrValue x (y ∷ []) r = value_or x y
 method_in method.Or x (y ∷ []) r = first_of x y
 method_in method.First x [] r = item_of first_item (plain_part x)
 method_in method.Last x [] r = item_of last_item (plain_part x)
+method_in method.Min x [] r = outcome_of (extreme_of less_equal_of (plain_part x))
+method_in method.Max x [] r = outcome_of (extreme_of greater_equal_of (plain_part x))
 method_in _ x ys r = r

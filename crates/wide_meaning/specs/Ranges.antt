@@ -1,8 +1,9 @@
 -- Macros over ranges, and over optional values.
-use Rattle.std.specs.Prelude.{ℕ, suc, pos, List, [], ◌∷◌, Option, Some, None, if◌then◌else◌, filter}
+use Rattle.std.specs.Prelude.{ℕ, suc, pos, List, [], ◌∷◌, Option, Some, None, if◌then◌else◌, filter, unwrap_or}
 use Rattle.std.specs.Prelude.{map as each}
 use Rattle.std.specs.List.{list_any}
 use Rattle.value_store.specs.Value.{Value, ValueOrError, error, value, int, text, list, map, list_of, Entries, no_entries, entry}
+use Rattle.value_store.specs.Lookup.{find}
 use Rattle.cel_macros.specs.declared.macros.Macro.{Macro as PlainMacro}
 use Rattle.cel_macros.specs.declared.macros.Macro.TheVariants as plain_macro
 use Rattle.cel_macros.specs.Literals.{list_literal}
@@ -38,16 +39,16 @@ abbrev pub numbered : ℕ → List Value → List (Value × Value)
 numbered n [] = []
 numbered n (v ∷ vs) = (int (pos n), v) ∷ numbered (suc n) vs
 
--- the values of a map, each with its key
-abbrev pub keyed : Entries → List (Value × Value)
-keyed no_entries = []
-keyed (entry k v more) = (text k, v) ∷ keyed more
+-- the keys of these entries, each with its value in the map es
+abbrev pub keyed : Entries → Entries → List (Value × Value)
+keyed es no_entries = []
+keyed es (entry k v more) = (text k, unwrap_or (find k es) v) ∷ keyed es more
 
--- the range of a macro with two names: the items of a list with their indices, or the values of a map with their keys
--- in byte order; None for all else
+-- the range of a macro with two names: the items of a list with their indices, or the keys of a map in byte order with
+-- their values; None for all else (cel-go, ext/comprehensions.go)
 abbrev pub pairs_of : ValueOrError → Option (List (Value × Value))
 pairs_of (value (list is)) = Some (numbered 0 (list_of is))
-pairs_of (value (map es)) = Some (keyed es)
+pairs_of (value (map es)) = Some (keyed es es)
 pairs_of _ = None
 
 -- a macro over pairs, with f as predicate or transform

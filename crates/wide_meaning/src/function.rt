@@ -53,6 +53,10 @@ pub enum Method {
     First,
     /// The last item of a list, if it has one.
     Last,
+    /// The least item of a list.
+    Min,
+    /// The greatest item of a list.
+    Max,
 }
 
 impl Method {
@@ -92,6 +96,8 @@ impl Method {
         match name {
             "first" => Some(Method::First),
             "last" => Some(Method::Last),
+            "min" => Some(Method::Min),
+            "max" => Some(Method::Max),
             _ => None,
         }
     }

@@ -1,6 +1,7 @@
 -- Operands, arguments and indices by their form.
 use Rattle.std.proofs.lemmas.Bool.Decides.{nat_tests}
-use Rattle.std.proofs.Common.{◌≡◌, ◌==◌, ◌∙◌, ap, ℕ, ℤ, pos, negsuc, ◌<◌, ◌<ℤ◌, ◌≤ℤ◌, Bool, true, false, List, [], ◌∷◌}
+use Rattle.std.proofs.Common.{◌≡◌, ◌==◌, ◌∙◌, ap, ℕ, ℤ, pos, negsuc, ◌<◌, ◌<ℤ◌, ◌≤ℤ◌, Bool, true, false, List, []}
+use Rattle.std.proofs.Common.{◌∷◌}
 use Rattle.std.proofs.Common.{Option, Some, None, Result, Ok, Err, IsErr, IsErrAnd, length, get_or, map, refl, sym}
 use Rattle.std.proofs.Common.{subst, arith}
 use Rattle.std.specs.declared.alloc.Global.{Global}
@@ -23,10 +24,12 @@ use Rattle.wide_translation.specs.declared.carried.Carried.{Carried as CodeCarri
 use Rattle.wide_translation.specs.declared.translation_error.TranslationError.{TranslationError}
 use Rattle.wide_translation.specs.Carried.{Carried, UnknownName, UnsignedInt, Translation, taken, refused}
 use Rattle.wide_translation.specs.Declarations.{ReturnsCarried, IsRefusal}
-use Rattle.wide_translation.specs.Layers.{compared_uint, is_equality}
+use Rattle.wide_translation.specs.Layers.{compared_uint, is_equality, is_of_sets, sets_test}
+use Rattle.wide_translation.specs.Lists.{sets_translation}
 use Rattle.wide_translation.specs.Scope.{WideScope}
 use Rattle.wide_translation.specs.Translated.{on_plain, equality, plain_binary, binary_carried, operand}
-use Rattle.wide_translation.specs.Translated.{function_carried, call_translation, qualified_translation, method_carried}
+use Rattle.wide_translation.specs.Translated.{function_carried, call_translation, qualified_translation}
+use Rattle.wide_translation.specs.Translated.{method_carried}
 use Rattle.wide_translation.specs.Translated.{index_carried, plain_index, count_index, count_literal}
 unfoldable use Rattle.wide_translation.specs.Translated.{translated, all_translated}
 use Rattle.wide_translation.proofs.WideViews.{view_list}
@@ -68,15 +71,31 @@ call_of_many None n es s h = refl
 call_of_many (Some f) n (a ∷ b ∷ es) s h = refl
 call_of_many (Some f) n _ s h = absurd (omega arith)
 
-qualified_refused : (q : Qualified) (n : List ℕ) (t u : Translation) (ts : List Translation) → qualified_translation q n (t ∷ u ∷ ts) ≡ refused (UnknownName n)
-qualified_refused qualified.OptionalOf n t u ts = refl
-qualified_refused _ n t u ts = refl
+qualified_refused : (q : Qualified) (n : List ℕ) (t u v : Translation) (ts : List Translation) → qualified_translation q n (t ∷ u ∷ v ∷ ts) ≡ refused (UnknownName n)
+qualified_refused qualified.OptionalOf n t u v ts = refl
+qualified_refused qualified.SetsContains n t u v ts = refl
+qualified_refused qualified.SetsIntersects n t u v ts = refl
+qualified_refused qualified.SetsEquivalent n t u v ts = refl
+qualified_refused _ n t u v ts = refl
 
-pub qualified_of_many : (q : Qualified) (n : List ℕ) (es : List CodeWide) (s : WideScope) → 1 < length es
+pub qualified_of_many : (q : Qualified) (n : List ℕ) (es : List CodeWide) (s : WideScope) → 2 < length es
     → qualified_translation q n (all_translated s (wide.wides (map wide.view es))) ≡ refused (UnknownName n)
 unfolding all_translated
-qualified_of_many q n (a ∷ b ∷ es) s h = qualified_refused q n _ _ _
+qualified_of_many q n (a ∷ b ∷ c ∷ es) s h = qualified_refused q n _ _ _ _
 qualified_of_many q n _ s h = absurd (omega arith)
+
+sets_of_two : (q : Qualified) (n : List ℕ) (t u : Translation) → is_of_sets q ≡ true → sets_translation (sets_test q) t u ≡ qualified_translation q n (t ∷ u ∷ [])
+sets_of_two qualified.SetsContains n t u h = refl
+sets_of_two qualified.SetsIntersects n t u h = refl
+sets_of_two qualified.SetsEquivalent n t u h = refl
+sets_of_two _ n t u h = absurd (cc)
+
+none_of_two : (q : Qualified) (n : List ℕ) (t u : Translation) → is_of_sets q ≡ false → qualified_translation q n (t ∷ u ∷ []) ≡ refused (UnknownName n)
+none_of_two qualified.SetsContains n t u h = absurd (cc)
+none_of_two qualified.SetsIntersects n t u h = absurd (cc)
+none_of_two qualified.SetsEquivalent n t u h = absurd (cc)
+none_of_two qualified.OptionalOf n t u h = refl
+none_of_two _ n t u h = refl
 
 method_refused : (m : Method) (c : Carried) (t u : Translation) (ts : List Translation) → method_carried m c (t ∷ u ∷ ts) ≡ refused (UnknownName (method_name m))
 method_refused method.Size c t u ts = refl
@@ -117,6 +136,14 @@ all_of_one s [] a h is = absurd (omega arith)
 all_of_one s (b ∷ []) a h is = ap (λ (x : CodeWide). translated s (wide.view x) ∷ []) (sym is)
 all_of_one s (b ∷ d ∷ es) a h is = absurd (omega arith)
 
+all_of_two : (s : WideScope) (es : List CodeWide) (a b : CodeWide) → length es ≡ 2 → a ≡ get_or es 0 a → b ≡ get_or es 1 b
+    → all_translated s (wide.wides (map wide.view es)) ≡ translated s (wide.view a) ∷ translated s (wide.view b) ∷ []
+unfolding all_translated
+all_of_two s (c ∷ d ∷ []) a b h is also = λ j. translated s (wide.view (sym is j)) ∷ translated s (wide.view (sym also j)) ∷ []
+all_of_two s [] a b h is also = absurd (omega arith)
+all_of_two s (c ∷ []) a b h is also = absurd (omega arith)
+all_of_two s (c ∷ d ∷ f ∷ es) a b h is also = absurd (omega arith)
+
 returns_at : (t u : Translation) (r : Result CodeCarried TranslationError) → t ≡ u → ReturnsCarried t r → ReturnsCarried u r
 returns_at t u r h x = subst (λ (y : Translation). ReturnsCarried y r) h x
 
@@ -127,6 +154,32 @@ none_returns f s es r h x = returns_at _ _ r (ap f (sym (all_of_none s es h))) x
 pub one_returns : (f : List Translation → Translation) (s : WideScope) (es : List CodeWide) (a : CodeWide) (r : Result CodeCarried TranslationError) → length es ≡ 1 → a ≡ get_or es 0 a
     → ReturnsCarried (f (translated s (wide.view a) ∷ [])) r → ReturnsCarried (f (all_translated s (wide.wides (map wide.view es)))) r
 one_returns f s es a r h is x = returns_at _ _ r (ap f (sym (all_of_one s es a h is))) x
+
+-- a function with a namespace of two arguments
+pub two_sets : (q : Qualified) (n : List ℕ) (s : WideScope) (es : List CodeWide) (a b : CodeWide) (r : Result CodeCarried TranslationError) → length es ≡ 2
+    → a ≡ get_or es 0 a → b ≡ get_or es 1 b → is_of_sets q ≡ true → ReturnsCarried (sets_translation (sets_test q) (translated s (wide.view a)) (translated s (wide.view b))) r
+    → ReturnsCarried (qualified_translation q n (all_translated s (wide.wides (map wide.view es)))) r
+two_sets q n s es a b r h is also of x =
+    returns_at _ _ r (sets_of_two q n _ _ of ∙ ap (qualified_translation q n) (sym (all_of_two s es a b h is also))) x
+
+-- the first of them is refused, or translated
+pub first_refused : (q : Qualified) (n : List ℕ) (s : WideScope) (es : List CodeWide) (a b : CodeWide) (e : TranslationError) → length es ≡ 2
+    → a ≡ get_or es 0 a → b ≡ get_or es 1 b → is_of_sets q ≡ true → IsRefusal (translated s (wide.view a)) e
+    → IsRefusal (qualified_translation q n (all_translated s (wide.wides (map wide.view es)))) e
+first_refused q n s es a b e h is also of x =
+    λ m. ap (qualified_translation q n) (all_of_two s es a b h is also) ∙ sym (sets_of_two q n _ _ of) ∙ (λ j. sets_translation (sets_test q) (x m j) (translated s (wide.view b)))
+
+pub first_taken : (q : Qualified) (n : List ℕ) (s : WideScope) (es : List CodeWide) (a b : CodeWide) (c : Carried) (r : Result CodeCarried TranslationError) → length es ≡ 2
+    → a ≡ get_or es 0 a → b ≡ get_or es 1 b → is_of_sets q ≡ true → translated s (wide.view a) ≡ taken c
+    → ReturnsCarried (sets_translation (sets_test q) (taken c) (translated s (wide.view b))) r → ReturnsCarried (qualified_translation q n (all_translated s (wide.wides (map wide.view es)))) r
+first_taken q n s es a b c r h is also of t x =
+    two_sets q n s es a b r h is also of (returns_at _ _ r (λ j. sets_translation (sets_test q) (sym t j) (translated s (wide.view b))) x)
+
+pub two_refused : (q : Qualified) (n : List ℕ) (s : WideScope) (es : List CodeWide) (a b : CodeWide) (e : TranslationError) → length es ≡ 2
+    → a ≡ get_or es 0 a → b ≡ get_or es 1 b → is_of_sets q ≡ false → IsRefusal (refused (UnknownName n)) e
+    → IsRefusal (qualified_translation q n (all_translated s (wide.wides (map wide.view es)))) e
+two_refused q n s es a b e h is also of x =
+    λ m. ap (qualified_translation q n) (all_of_two s es a b h is also) ∙ none_of_two q n _ _ of ∙ x m
 
 pub call_taken : (f : Option Function) (g : Function) (n : List ℕ) (t : Translation) (c : Carried) (r : Result CodeCarried TranslationError) → f ≡ Some g → t ≡ taken c
     → ReturnsCarried (on_plain c (function_carried g)) r → ReturnsCarried (call_translation f n (t ∷ [])) r

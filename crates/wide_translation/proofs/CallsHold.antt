@@ -1,5 +1,6 @@
 -- Functions and methods.
-use Rattle.std.proofs.Common.{◌≡◌, ℕ, Bool, true, false, List, [], ◌∷◌, Option, Some, None, codes, pos, if◌then◌else◌, refl, ap, ◌∙◌}
+use Rattle.std.proofs.Common.{◌≡◌, ℕ, Bool, true, false, List, [], ◌∷◌, Option, Some, None, codes, pos, if◌then◌else◌}
+use Rattle.std.proofs.Common.{refl, ap, ◌∙◌}
 use Rattle.cel_reader.specs.Tree as tree
 use Rattle.cel_reader.specs.Tree.{Tree, no_trees, more_trees}
 use Rattle.value_store.specs.Value.{Value, ValueOrError, error, value, null, boolean, int, text, list, map, no_items}
@@ -9,7 +10,8 @@ use Rattle.cel_macros.specs.Functions.{size_of, string_of, test_name, text_test_
 unfoldable use Rattle.cel_macros.specs.Functions.{function_named, test_named}
 use Rattle.cel_macros.specs.Logic.{ternary_of}
 unfoldable use Rattle.cel_macros.specs.Macros.{is_variables, is_has}
-use Rattle.cel_macros.specs.declared.text_test.TextTest.{TextTest, TheVariants.StartsWith, TheVariants.EndsWith, TheVariants.Contains}
+use Rattle.cel_macros.specs.declared.text_test.TextTest.{TextTest, TheVariants.StartsWith, TheVariants.EndsWith}
+use Rattle.cel_macros.specs.declared.text_test.TextTest.{TheVariants.Contains}
 use Rattle.cel_macros.specs.Selection.{index_of}
 unfoldable use Rattle.cel_macros.specs.Meaning.{meaning, meanings}
 use Rattle.wide_meaning.specs.declared.function.Function.{Function}
@@ -17,9 +19,12 @@ use Rattle.wide_meaning.specs.declared.function.Function.TheVariants as function
 use Rattle.wide_meaning.specs.declared.function.Method.{Method}
 use Rattle.wide_meaning.specs.declared.function.Method.TheVariants as method
 use Rattle.wide_meaning.specs.declared.function.Qualified.{Qualified}
-use Rattle.wide_meaning.specs.Functions.{text_of, function_in, method_in}
+use Rattle.cel_reader.specs.declared.operator.BinaryOperator.TheVariants as operator
+use Rattle.cel_macros.specs.Comparison.{less_equal_of, greater_equal_of}
+use Rattle.wide_meaning.specs.Functions.{text_of, function_in, first_item, last_item, item_of, extreme_of, method_in}
 use Rattle.wide_meaning.specs.Meaning.{called, method_called}
-use Rattle.wide_meaning.specs.Outcome.{Outcome, failed, plain as of_value, absent, present, outcome_of, plain_part, value_in, value_or}
+use Rattle.wide_meaning.specs.Outcome.{Outcome, failed, plain as of_value, absent, present, outcome_of, plain_part}
+use Rattle.wide_meaning.specs.Outcome.{value_in, value_or}
 use Rattle.wide_kinds.specs.declared.kind.ValueKind.{ValueKind}
 use Rattle.wide_kinds.specs.declared.kind.ValueKind.TheVariants as kind
 use Rattle.wide_kinds.specs.Kinds.{joined_kind}
@@ -31,11 +36,14 @@ use Rattle.wide_translation.specs.Names.{held_name}
 use Rattle.wide_translation.specs.Translated.{once, string_tree, function_carried, call_translation, value_carried}
 use Rattle.wide_translation.specs.Translated.{or_value_carried, test_translation, method_carried, method_translation}
 use Rattle.wide_translation.specs.Translated.{with_plain}
-use Rattle.wide_translation.proofs.FieldsHold.{part_fits, plain_holds, with_holds, on_plain_holds, with_plain_holds, has_value_holds}
+use Rattle.wide_translation.proofs.FieldsHold.{part_fits, plain_holds, with_holds, on_plain_holds, with_plain_holds}
+use Rattle.wide_translation.proofs.FieldsHold.{has_value_holds}
 use Rattle.wide_translation.proofs.OperatorsHold.{first_kind, second_kind}
 use Rattle.wide_meaning.specs.Functions.{bool_of}
 use Rattle.wide_translation.specs.Translated.{bool_of_kind}
 use Rattle.wide_translation.proofs.FormsHold.{bool_means, bool_kind, bool_free}
+use Rattle.wide_translation.specs.Lists.{first_list_tree, last_list_tree, extreme_tree}
+use Rattle.wide_translation.proofs.ListsHold.{first_holds, last_holds, extreme_holds}
 use Rattle.wide_translation.proofs.OptionalHold.{AllHold, or_holds, qualified_holds}
 use Rattle.wide_translation.proofs.Steps.{MeansBy, once_means, on_value, let_means, held_is}
 
@@ -298,12 +306,28 @@ method_holds method.Or c x (t ∷ []) (y ∷ []) r env h i s = or_holds c t x y 
 method_holds method.Or c x (t ∷ []) [] r env h i s = absurd i
 method_holds method.Or c x (t ∷ []) (y ∷ z ∷ zs) r env h i s = absurd i.1
 method_holds method.Or c x (t ∷ u ∷ ts) ys r env h i s = tt
-method_holds method.First c x ts ys r env h i s = tt
-method_holds method.Last c x ts ys r env h i s = tt
+method_holds method.First c x [] [] r env h i s =
+    on_plain_holds c (λ k a. taken (listed kind.Dyn (first_list_tree a))) x (item_of first_item (plain_part x)) env h (λ k a q. first_holds k a x env q)
+method_holds method.First c x [] (y ∷ ys) r env h i s = absurd i
+method_holds method.First c x (t ∷ ts) ys r env h i s = tt
+method_holds method.Last c x [] [] r env h i s =
+    on_plain_holds c (λ k a. taken (listed kind.Dyn (last_list_tree a))) x (item_of last_item (plain_part x)) env h (λ k a q. last_holds k a x env q)
+method_holds method.Last c x [] (y ∷ ys) r env h i s = absurd i
+method_holds method.Last c x (t ∷ ts) ys r env h i s = tt
+method_holds method.Min c x [] [] r env h i s =
+    on_plain_holds c (λ k a. taken (plain kind.Dyn (extreme_tree operator.LessEqual a))) x (outcome_of (extreme_of less_equal_of (plain_part x))) env h
+    (λ k a q. extreme_holds operator.LessEqual k a x env q)
+method_holds method.Min c x [] (y ∷ ys) r env h i s = absurd i
+method_holds method.Min c x (t ∷ ts) ys r env h i s = tt
+method_holds method.Max c x [] [] r env h i s =
+    on_plain_holds c (λ k a. taken (plain kind.Dyn (extreme_tree operator.GreaterEqual a))) x (outcome_of (extreme_of greater_equal_of (plain_part x))) env h
+    (λ k a q. extreme_holds operator.GreaterEqual k a x env q)
+method_holds method.Max c x [] (y ∷ ys) r env h i s = absurd i
+method_holds method.Max c x (t ∷ ts) ys r env h i s = tt
 
 pub method_called_holds : (q : Option Qualified) (m : Option Method) (n : List ℕ) (t : Translation) (x : Outcome) (ts : List Translation) (xs : List Outcome) (r : Outcome) (env : Environment)
     → WideHolds t x env → AllHold ts xs env → ((v : Value) → AllHold ts xs (bind held_name v env)) → WideHolds (method_translation q m n t ts) (method_called q m x xs r) env
-method_called_holds (Some q) m n t x ts xs r env h i s = qualified_holds q n ts xs r env i
+method_called_holds (Some q) m n t x ts xs r env h i s = qualified_holds q n ts xs r env i s
 method_called_holds None None n t x ts xs r env h i s = tt
 method_called_holds None (Some m) n t x ts xs r env h i s =
     with_holds t (λ c. method_carried m c ts) x (method_in m x xs r) env h (λ c g. method_holds m c x ts xs r env g i s)

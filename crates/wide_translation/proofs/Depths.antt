@@ -5,7 +5,8 @@ use Rattle.std.specs.declared.boxed.Box.{Box}
 use Rattle.std.specs.declared.string.String.{String}
 use Rattle.std.specs.declared.vec.Vec.{Vec}
 use Rattle.wide_reader.specs.declared.wide.Wide as code
-use Rattle.wide_reader.specs.declared.wide.Wide.{Wide, size-Wide, size_is-Wide, roll-Wide, out-roll-Wide, TheVariants.rolls-Method}
+use Rattle.wide_reader.specs.declared.wide.Wide.{Wide, size-Wide, size_is-Wide, roll-Wide, out-roll-Wide}
+use Rattle.wide_reader.specs.declared.wide.Wide.{TheVariants.rolls-Method}
 use Rattle.wide_reader.specs.declared.wide.Wide.TheBlock as block
 use Rattle.wide_reader.specs.declared.wide.Wide.TheOpen as layer
 use Rattle.wide_reader.specs.declared.wide.Wide.TheOpen.{Wide-F}

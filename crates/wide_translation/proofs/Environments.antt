@@ -4,19 +4,21 @@ use Rattle.std.proofs.Common.{refl, ap, sym, ◌∙◌, ◌||◌, ◌&&◌, subs
 use lib.Pointwise.{bytes_decides}
 use Rattle.std.specs.Option.{option_or}
 use Rattle.cel_reader.specs.Tree as tree
+use Rattle.cel_reader.specs.Tree.{Tree}
 use Rattle.value_store.specs.Value.{Value, ValueOrError, value}
 use Rattle.cel_macros.specs.Environment.{Environment, bind, value_or_error, lookup, root_bindings}
 unfoldable use Rattle.cel_macros.specs.Environment.{name_value, is_root}
 use Rattle.cel_macros.specs.Macros.{variables_name}
-unfoldable use Rattle.cel_macros.specs.Macros.{is_variables}
+unfoldable use Rattle.cel_macros.specs.Macros.{is_variables, is_has}
+unfoldable use Rattle.cel_macros.specs.Functions.{function_named}
 use Rattle.cel_macros.specs.Selection.{field_of}
-unfoldable use Rattle.cel_macros.specs.Meaning.{meaning}
+unfoldable use Rattle.cel_macros.specs.Meaning.{meaning, meanings}
 use Rattle.wide_meaning.specs.Environment.{WideEnvironment, bound}
 use Rattle.wide_kinds.specs.declared.kind.ValueKind.{ValueKind}
 use Rattle.wide_kinds.specs.Fitting.{has_kind}
-use Rattle.wide_translation.specs.Forms.{root_tree}
+use Rattle.wide_translation.specs.Forms.{null_tree, placed_tree, root_tree}
 use Rattle.wide_translation.specs.Holds.{WideNamed, WideStandsFor}
-use Rattle.wide_translation.specs.Names.{held_name, params_name, params_field, is_taken}
+use Rattle.wide_translation.specs.Names.{held_name, namespace_name, params_name, params_field, is_taken}
 use Rattle.wide_translation.specs.Scope.{WideScope, within}
 
 -- ---- bools
@@ -88,17 +90,35 @@ unfolding meaning is_variables
 root_by true x n v env h g = ap (λ y. field_of y params_field) (other_name x params_name v env g)
 root_by false x n v env h g = other_name x n v env h
 
-pub root_stays : (w : Bool) (x n : List ℕ) (v : Value) (env : Environment) → is_root x ≡ false → is_root n ≡ true
-    → meaning (root_tree w n) (bind x v env) ≡ meaning (root_tree w n) env
-root_stays w x n v env h g = root_by (w && bytes_eq params_name n) x n v env (differs x n h g) (differs x params_name h params_is_root)
+placed_stays : (w : Bool) (x n : List ℕ) (v : Value) (env : Environment) → is_root x ≡ false → is_root n ≡ true
+    → meaning (placed_tree w n) (bind x v env) ≡ meaning (placed_tree w n) env
+placed_stays w x n v env h g = root_by (w && bytes_eq params_name n) x n v env (differs x n h g) (differs x params_name h params_is_root)
+
+unless_null : (b : Bool) (t : Tree) (x : List ℕ) (v : Value) (env : Environment) → meaning t (bind x v env) ≡ meaning t env
+    → meaning (if b then null_tree else t) (bind x v env) ≡ meaning (if b then null_tree else t) env
+unfolding meaning meanings is_has function_named
+unless_null true t x v env h = refl
+unless_null false t x v env h = h
+
+pub root_stays : (s : WideScope) (x n : List ℕ) (v : Value) (env : Environment) → is_root x ≡ false → is_root n ≡ true
+    → meaning (root_tree s n) (bind x v env) ≡ meaning (root_tree s n) env
+root_stays s x n v env h g =
+    unless_null (s.condition && bytes_eq namespace_name n) (placed_tree s.wrapped n) x v env (placed_stays s.wrapped x n v env h g)
 
 root_free_by : (b : Bool) (n : List ℕ) → bytes_eq variables_name n ≡ false → is_variables (if b then tree.select (tree.name params_name) params_field else tree.name n) ≡ false
 unfolding is_variables
 root_free_by true n h = refl
 root_free_by false n h = h
 
-pub root_tree_free : (w : Bool) (n : List ℕ) → is_root n ≡ true → is_variables (root_tree w n) ≡ false
-root_tree_free w n h = root_free_by (w && bytes_eq params_name n) n (root_is_no_variables n h)
+null_free_by : (b : Bool) (t : Tree) → is_variables t ≡ false → is_variables (if b then null_tree else t) ≡ false
+unfolding is_variables
+null_free_by true t h = refl
+null_free_by false t h = h
+
+pub root_tree_free : (s : WideScope) (n : List ℕ) → is_root n ≡ true → is_variables (root_tree s n) ≡ false
+root_tree_free s n h =
+    null_free_by (s.condition && bytes_eq namespace_name n) (placed_tree s.wrapped n)
+    (root_free_by (s.wrapped && bytes_eq params_name n) n (root_is_no_variables n h))
 
 -- ---- bindings on both sides, and on the second alone
 
@@ -124,7 +144,7 @@ both_bound s x k v env env' h hk r = record {
   named = λ n. subst (λ (y : ValueOrError). WideNamed (if bytes_eq x n then Some k else lookup n s.names) (if bytes_eq x n then Some v else lookup n env.items) y)
       (sym (name_bound x n v env'))
       (named_by (bytes_eq x n) k v (lookup n s.names) (lookup n env.items) (name_value n env') hk (r.named n));
-  rooted = λ n g. root_stays s.wrapped x n v env' (root_free x h) g ∙ r.rooted n g;
+  rooted = λ n g. root_stays s x n v env' (root_free x h) g ∙ r.rooted n g;
   declared = r.declared;
   apart = λ n i. apart_by (bytes_eq x n) x n k (lookup n s.names) refl h (r.apart n) i;
 }
@@ -133,7 +153,7 @@ pub held_bound : (s : WideScope) (v : Value) (env : WideEnvironment) (env' : Env
 held_bound s v env env' r = record {
   named = λ n. named_same (lookup n s.names) (lookup n env.items) (name_value n env') (name_value n (bind held_name v env'))
       (λ i. other_name held_name n v env' (held_free n (r.apart n i))) (r.named n);
-  rooted = λ n g. root_stays s.wrapped held_name n v env' held_is_no_root g ∙ r.rooted n g;
+  rooted = λ n g. root_stays s held_name n v env' held_is_no_root g ∙ r.rooted n g;
   declared = r.declared;
   apart = r.apart;
 }

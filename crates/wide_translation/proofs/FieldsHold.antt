@@ -33,11 +33,11 @@ use Rattle.wide_translation.specs.Names.{held_name, is_taken}
 use Rattle.wide_translation.specs.Scope.{WideScope, is_hidden}
 use Rattle.wide_translation.specs.Translated.{with_carried, on_plain, with_plain, on_list, root_translation}
 use Rattle.wide_translation.specs.Translated.{name_translation, variable_translation, optional_field, field_of_list}
-use Rattle.wide_translation.specs.Translated.{field_of_guarded, field_carried, has_value_carried, has_carried}
+use Rattle.wide_translation.specs.Translated.{present_of, field_of_guarded, field_carried, has_value_carried, has_carried}
 use Rattle.wide_translation.specs.Translated.{has_value_translation, selected_translation}
 use Rattle.wide_translation.proofs.Environments.{variables_free, root_tree_free}
 use Rattle.wide_translation.proofs.Steps.{field_outcome, access_means, access_free, present_means, value_of_field}
-use Rattle.wide_translation.proofs.Steps.{guarded_means, guard_again, field_list_means, let_held, once_means, after}
+use Rattle.wide_translation.proofs.Steps.{guarded_means, guard_again, field_list_means, let_held, present_of_means, present_of_free, after}
 use Rattle.wide_translation.proofs.Steps.{flat_holds, field_list_held}
 
 -- ---- values and outcomes
@@ -90,12 +90,12 @@ root_kind (Some v) = refl
 root_kind None = tt
 
 root_by : (b : Bool) (s : WideScope) (n : List ℕ) (env : WideEnvironment) (env' : Environment) → is_root n ≡ b → WideStandsFor s env env'
-    → WideHolds (if b then taken (plain kind.Dyn (root_tree s.wrapped n)) else refused (UnknownName n)) (root_in n env.roots) env'
-root_by true s n env env' e r = record { means = r.rooted n e; kind = root_kind (lookup n (root_bindings env.roots)); free = root_tree_free s.wrapped n e }
+    → WideHolds (if b then taken (plain kind.Dyn (root_tree s n)) else refused (UnknownName n)) (root_in n env.roots) env'
+root_by true s n env env' e r = record { means = r.rooted n e; kind = root_kind (lookup n (root_bindings env.roots)); free = root_tree_free s n e }
 root_by false s n env env' e r = tt
 
 pub root_holds : (s : WideScope) (n : List ℕ) (env : WideEnvironment) (env' : Environment) → WideStandsFor s env env'
-    → WideHolds (root_translation s.wrapped n) (root_in n env.roots) env'
+    → WideHolds (root_translation s n) (root_in n env.roots) env'
 root_holds s n env env' r = root_by (is_root n) s n env env' refl r
 
 name_by : (o : Option ValueKind) (i : Option Value) (n : List ℕ) (t : Translation) (x : Outcome) (env' : Environment)
@@ -107,9 +107,9 @@ name_by (Some k) None n t x env' h g r = absurd h
 name_by None (Some v) n t x env' h g r = absurd h
 
 pub name_holds : (s : WideScope) (n : List ℕ) (env : WideEnvironment) (env' : Environment) → WideStandsFor s env env'
-    → WideHolds (name_translation (lookup n s.names) n (root_translation s.wrapped n)) (name_in n env) env'
+    → WideHolds (name_translation (lookup n s.names) n (root_translation s n)) (name_in n env) env'
 name_holds s n env env' r =
-    name_by (lookup n s.names) (lookup n env.items) n (root_translation s.wrapped n) (root_in n env.roots) env' (r.named n) (r.apart n) (root_holds s n env env' r)
+    name_by (lookup n s.names) (lookup n env.items) n (root_translation s n) (root_in n env.roots) env' (r.named n) (r.apart n) (root_holds s n env env' r)
 
 -- ---- variables
 
@@ -230,26 +230,25 @@ outcome_kind : (y : ValueOrError) (f : List ℕ) → IsOptionalOf kind.Dyn (fiel
 outcome_kind error f = tt
 outcome_kind (value v) f = of_sel v f
 
-optional_field_of : (b : Bool) (t : Tree) (y : ValueOrError) (f : List ℕ) (env : Environment) → meaning t env ≡ y → is_variables t ≡ false
-    → Carries (optional_field b t f) (field_outcome y f) env
-unfolding is_variables
-optional_field_of true t y f env m v = record {
-  guard = present_means t f env ∙ ap (λ z. guard_part (field_outcome z f)) m;
-  value = access_means t f env v ∙ ap (λ z. field_of z f) m ∙ value_of_field y f;
-  kind = outcome_kind y f;
+optional_field_of : (b : Bool) (k : ValueKind) (t : Tree) (x : Outcome) (f : List ℕ) (env : Environment) → IsPlain k t x env
+    → Carries (optional_field b k t f) (field_outcome (plain_part x) f) env
+optional_field_of true k t x f env h = record {
+  guard = present_of_means k t f x env h.kind h.means;
+  value = access_means t f env h.free ∙ ap (λ z. field_of z f) h.means ∙ value_of_field (plain_part x) f;
+  kind = outcome_kind (plain_part x) f;
   free = access_free t f;
-  guard_free = refl;
+  guard_free = present_of_free k t f;
 }
-optional_field_of false t y f env m v = record {
-  list = let_held (λ a. field_list_tree a f) (λ z. list_part (field_outcome z f)) t env (field_list_means f) refl ∙ ap (λ z. list_part (field_outcome z f)) m;
-  kind = outcome_kind y f;
+optional_field_of false k t x f env h = record {
+  list = let_held (λ a. field_list_tree a f) (λ z. list_part (field_outcome z f)) t env (field_list_means f) refl ∙ ap (λ z. list_part (field_outcome z f)) h.means;
+  kind = outcome_kind (plain_part x) f;
 }
 
 pub field_holds : (o : Access) (f : List ℕ) (c : Carried) (x : Outcome) (env : Environment) → Carries c x env → Carries (field_carried o f c) (field_in o x f) env
 field_holds Plain f (plain k t) x env h = plain_field k t x f env h
 field_holds Optional f (plain k t) x env h =
-    subst (λ (y : Outcome). Carries (optional_field (is_simple t) t f) y env) (optional_same k x f h.kind)
-    (optional_field_of (is_simple t) t (plain_part x) f env h.means h.free)
+    subst (λ (y : Outcome). Carries (optional_field (is_simple t) k t f) y env) (optional_same k x f h.kind)
+    (optional_field_of (is_simple t) k t x f env h)
 field_holds Plain f (guarded k g t) x env h = guarded_field (is_simple t) Plain k g t x f env h
 field_holds Optional f (guarded k g t) x env h = guarded_field (is_simple t) Optional k g t x f env h
 field_holds Plain f (listed k l) x env h = list_field Plain k l x f env h
@@ -308,10 +307,17 @@ has_value_holds (guarded k g t) x env h = guard_holds k g t x env h
 has_value_holds (listed k l) x env h = list_holds k l x env h
 
 -- whether an operand has a field
-once_free_by : (b : Bool) (t : Tree) (f : List ℕ) → is_variables (if b then present_tree t f else let_tree held_name t (present_tree held f)) ≡ false
+has_free_by : (b : Bool) (k : ValueKind) (t : Tree) (f : List ℕ) → is_variables (if b then present_of k t f else let_tree held_name t (present_tree held f)) ≡ false
 unfolding is_variables
-once_free_by true t f = refl
-once_free_by false t f = refl
+has_free_by true k t f = present_of_free k t f
+has_free_by false k t f = refl
+
+has_means_by : (b : Bool) (k : ValueKind) (t : Tree) (f : List ℕ) (x : Outcome) (env : Environment) → IsPlain k t x env
+    → meaning (if b then present_of k t f else let_tree held_name t (present_tree held f)) env ≡ guard_part (field_outcome (plain_part x) f)
+has_means_by true k t f x env h = present_of_means k t f x env h.kind h.means
+has_means_by false k t f x env h =
+    let_held (λ a. present_tree a f) (λ y. guard_part (field_outcome y f)) t env (λ a e v. present_means a f e) refl
+    ∙ ap (λ y. guard_part (field_outcome y f)) h.means
 
 guard_of_field : (k : ValueKind) (x : Outcome) (f : List ℕ) → IsOfKind k x → guard_part (field_outcome (plain_part x) f) ≡ plain_part (has_in x f)
 guard_of_field k failed f h = refl
@@ -326,10 +332,9 @@ has_of_guarded false k g t f x env h = list_holds kind.Dyn _ x env h
 
 pub has_holds : (f : List ℕ) (c : Carried) (x : Outcome) (env : Environment) → Carries c x env → IsPlain kind.Bool (has_carried f c) (has_in x f) env
 has_holds f (plain k t) x env h = record {
-  means = once_means (λ a. present_tree a f) (λ y. guard_part (field_outcome y f)) t env (λ a e v. present_means a f e) refl h.free
-      ∙ ap (λ y. guard_part (field_outcome y f)) h.means ∙ guard_of_field k x f h.kind;
+  means = has_means_by (is_simple t) k t f x env h ∙ guard_of_field k x f h.kind;
   kind = present_kind (field_in Optional x f);
-  free = once_free_by (is_simple t) t f;
+  free = has_free_by (is_simple t) k t f;
 }
 has_holds f (guarded k g t) x env h = has_of_guarded (is_simple t) k g t f (field_in Optional x f) env (field_holds Optional f (guarded k g t) x env h)
 has_holds f (listed k l) x env h = list_holds kind.Dyn _ (field_in Optional x f) env (field_holds Optional f (listed k l) x env h)

@@ -1,5 +1,6 @@
 -- Items of list literals and entries of map literals, one more at a time.
-use Rattle.std.proofs.Common.{◌≡◌, ℕ, zero, suc, false, ◌+◌, ◌<◌, ◌≤◌, List, [], ◌∷◌, ◌++◌, Option, Some, None, length}
+use Rattle.std.proofs.Common.{◌≡◌, ℕ, zero, suc, false, ◌+◌, ◌<◌, ◌≤◌, List, [], ◌∷◌, ◌++◌, Option, Some, None}
+use Rattle.std.proofs.Common.{length}
 use Rattle.std.proofs.Common.{get_or, drop, map, ap, sym, ◌∙◌, refl, arith}
 use Rattle.std.proofs.lemmas.List.{map-append}
 use Rattle.std.specs.declared.alloc.Global.{Global}
@@ -169,57 +170,6 @@ pub items_end : (s : WideScope) (given : List (Access × CodeWide)) (i : ℕ) (p
 unfolding translated
 items_end s given i ps last h = ap (λ ys. list_translation (after ps last (given_items s ys))) (all_dropped given i h) ∙ list_of_all ps last
 
--- ---- entries
-
-abbrev pub given_entries : WideScope → List (Access × CodeWide × CodeWide) → Pairs
-given_entries s es = entries_translated s (wide.entries (map wide.entry_view es))
-
-entries_fault : (done : List (Tree × Tree)) (f : WideFault) → entries_more done (no_pairs f) ≡ no_pairs f
-entries_fault [] f = refl
-entries_fault (e ∷ done) f = ap (entry_more Plain (taken (plain kind.Dyn e.0)) (taken (plain kind.Dyn e.1))) (entries_fault done f)
-
-entries_entry : (done : List (Tree × Tree)) (e : Tree × Tree) (x : Pairs)
-    → entries_more done (entry_more Plain (taken (plain kind.Dyn e.0)) (taken (plain kind.Dyn e.1)) x) ≡ entries_more (done ++ e ∷ []) x
-entries_entry [] e x = refl
-entries_entry (d ∷ done) e x = ap (entry_more Plain (taken (plain kind.Dyn d.0)) (taken (plain kind.Dyn d.1))) (entries_entry done e x)
-
-entries_pairs : (done : List (Tree × Tree)) → entries_more done (pairs node.no_entries) ≡ pairs (node.entries done)
-entries_pairs [] = refl
-entries_pairs (d ∷ done) = ap (entry_more Plain (taken (plain kind.Dyn d.0)) (taken (plain kind.Dyn d.1))) (entries_pairs done)
-
-pub entry_next : (s : WideScope) (given : List (Access × CodeWide × CodeWide)) (i : ℕ) (x : Access × CodeWide × CodeWide) (k l : ValueKind) (t u : Tree) (done : List (Tree × Tree))
-    → i < length given → x ≡ get_or given i x → x.0 ≡ Plain → translated s (wide.view x.1) ≡ taken (plain k t) → translated s (wide.view x.2) ≡ taken (plain l u)
-    → entries_more done (given_entries s (drop i given)) ≡ entries_more (done ++ (t, u) ∷ []) (given_entries s (drop (i + 1) given))
-unfolding translated
-entry_next s given i x k l t u done h e p q r =
-    ap (λ ys. entries_more done (given_entries s ys)) (dropped given i x h e)
-    ∙ (λ j. entries_more done (entry_more (p j) (q j) (r j) (given_entries s (drop (i + 1) given))))
-    ∙ entries_entry done (t, u) (given_entries s (drop (i + 1) given))
-
--- an entry that is refused, from what its parts are
-pub entry_refused : (s : WideScope) (given : List (Access × CodeWide × CodeWide)) (i : ℕ) (x : Access × CodeWide × CodeWide) (f : WideFault) (done : List (Tree × Tree))
-    → i < length given → x ≡ get_or given i x → ((y : Pairs) → entry_more x.0 (translated s (wide.view x.1)) (translated s (wide.view x.2)) y ≡ no_pairs f)
-    → map_translation (entries_more done (given_entries s (drop i given))) ≡ refused f
-unfolding translated
-entry_refused s given i x f done h e q =
-    ap map_translation
-    (ap (λ ys. entries_more done (given_entries s ys)) (dropped given i x h e) ∙ ap (entries_more done) (q (given_entries s (drop (i + 1) given))) ∙ entries_fault done f)
-
-pub key_refused : (t u : Translation) (o : Access) (f : WideFault) (y : Pairs) → o ≡ Plain → t ≡ refused f → entry_more o t u y ≡ no_pairs f
-key_refused t u o f y p q = (λ j. entry_more (p j) (q j) u y)
-
-pub entry_value_refused : (t u : Translation) (o : Access) (k : ValueKind) (a : Tree) (f : WideFault) (y : Pairs) → o ≡ Plain → t ≡ taken (plain k a) → u ≡ refused f → entry_more o t u y ≡ no_pairs f
-entry_value_refused t u o k a f y p q r = (λ j. entry_more (p j) (q j) (r j) y)
-
-pub entry_marked : (t u : Translation) (o : Access) (y : Pairs) → o ≡ Optional → entry_more o t u y ≡ no_pairs Unsupported
-entry_marked t u o y p = (λ j. entry_more (p j) t u y)
-
--- no more entries
-pub entries_end : (s : WideScope) (given : List (Access × CodeWide × CodeWide)) (i : ℕ) (done : List (Tree × Tree)) → length given ≤ i
-    → map_translation (entries_more done (given_entries s (drop i given))) ≡ taken (plain kind.Map (node.map (node.entries done)))
-unfolding translated
-entries_end s given i done h = ap (λ ys. map_translation (entries_more done (given_entries s ys))) (all_dropped given i h) ∙ ap map_translation (entries_pairs done)
-
 -- ---- what the code returns, from its list so far
 
 pub items_refusal : (s : WideScope) (given : List (Access × CodeWide)) (i : ℕ) (x : Access × CodeWide) (e : TranslationError) (so_far : ListParts) (all : Parts)
@@ -236,32 +186,3 @@ pub items_whole : (s : WideScope) (given : List (Access × CodeWide)) (i : ℕ) 
     → all ≡ parts_of so_far (given_items s (drop i given)) → length given ≤ i → t ≡ joined_parts so_far → list_translation all ≡ taken (plain kind.List t)
 items_whole s given i so_far all t inv h is =
     ap list_translation inv ∙ items_end s given i (map segment_view so_far.segments.items) (map node.view so_far.last.items) h ∙ ap (λ (u : Tree). taken (plain kind.List u)) (sym is)
-
-pub pairs_refusal : (s : WideScope) (given : List (Access × CodeWide × CodeWide)) (i : ℕ) (x : Access × CodeWide × CodeWide) (e : TranslationError) (done : List (Tree × Tree)) (all : Pairs)
-    → all ≡ entries_more done (given_entries s (drop i given)) → i < length given → x ≡ get_or given i x
-    → (is_memory e ≡ false → (y : Pairs) → entry_more x.0 (translated s (wide.view x.1)) (translated s (wide.view x.2)) y ≡ no_pairs (fault_of e)) → IsRefusal (map_translation all) e
-pairs_refusal s given i x e done all inv h is r = λ m. ap map_translation inv ∙ entry_refused s given i x (fault_of e) done h is (r m)
-
-pub pairs_whole : (s : WideScope) (given : List (Access × CodeWide × CodeWide)) (i : ℕ) (done : List (Tree × Tree)) (all : Pairs)
-    → all ≡ entries_more done (given_entries s (drop i given)) → length given ≤ i → map_translation all ≡ taken (plain kind.Map (node.map (node.entries done)))
-pairs_whole s given i done all inv h = ap map_translation inv ∙ entries_end s given i done h
-
-pub pairs_next : (s : WideScope) (given : List (Access × CodeWide × CodeWide)) (i : ℕ) (x : Access × CodeWide × CodeWide) (k l : ValueKind) (a b : Expr) (done more : List (Expr × Expr)) (all : Pairs)
-    → all ≡ entries_more (map node.entry_view done) (given_entries s (drop i given)) → i < length given → x ≡ get_or given i x → x.0 ≡ Plain
-    → translated s (wide.view x.1) ≡ taken (plain k (node.view a)) → translated s (wide.view x.2) ≡ taken (plain l (node.view b)) → more ≡ done ++ (a, b) ∷ []
-    → all ≡ entries_more (map node.entry_view more) (given_entries s (drop (i + 1) given))
-pairs_next s given i x k l a b done more all inv h is p q r w =
-    inv ∙ entry_next s given i x k l (node.view a) (node.view b) (map node.entry_view done) h is p q r
-    ∙ ap (λ d. entries_more d (given_entries s (drop (i + 1) given))) (sym (ap (map node.entry_view) w ∙ map-append node.entry_view done ((a, b) ∷ [])))
-
--- an entry whose key or value is no value
-pub key_no_value : (t u : Translation) (o : Access) (c : CodeCarried) (y : Pairs) → o ≡ Plain → t ≡ taken (carried_view c) → ((k : ValueKind) (a : Expr) → c ≡ code.Plain k a → ⊥) → entry_more o t u y ≡ no_pairs OptionalValue
-key_no_value t u o (code.Plain k a) y p q n = absurd (n k a refl)
-key_no_value t u o (code.Guarded k g v) y p q n = (λ j. entry_more (p j) (q j) u y)
-key_no_value t u o (code.Listed k l) y p q n = (λ j. entry_more (p j) (q j) u y)
-
-pub entry_no_value : (t u : Translation) (o : Access) (k : ValueKind) (a : Tree) (c : CodeCarried) (y : Pairs)
-    → o ≡ Plain → t ≡ taken (plain k a) → u ≡ taken (carried_view c) → ((l : ValueKind) (b : Expr) → c ≡ code.Plain l b → ⊥) → entry_more o t u y ≡ no_pairs OptionalValue
-entry_no_value t u o k a (code.Plain l b) y p q r n = absurd (n l b refl)
-entry_no_value t u o k a (code.Guarded l g v) y p q r n = (λ j. entry_more (p j) (q j) (r j) y)
-entry_no_value t u o k a (code.Listed l m) y p q r n = (λ j. entry_more (p j) (q j) (r j) y)

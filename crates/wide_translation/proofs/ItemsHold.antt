@@ -21,11 +21,13 @@ use Rattle.wide_kinds.specs.declared.kind.ValueKind.{ValueKind}
 use Rattle.wide_kinds.specs.declared.kind.ValueKind.TheVariants as kind
 use Rattle.wide_kinds.specs.Fitting.{IsOfKind, IsOptionalOf}
 use Rattle.wide_translation.specs.Carried.{Carried, plain, guarded, listed}
-use Rattle.wide_translation.specs.Forms.{held, flat_tree, guarded_tree, is_simple, present_item_tree, item_tree, item_list_tree}
+use Rattle.wide_translation.specs.Forms.{held, flat_tree, guarded_tree, is_simple, is_below_tree, present_item_tree, item_tree}
+use Rattle.wide_translation.specs.Forms.{item_list_tree}
 use Rattle.wide_translation.specs.Holds.{guard_part, value_part, list_part, IsListed, Carries}
 use Rattle.wide_translation.specs.Names.{held_name}
-use Rattle.wide_translation.specs.Translated.{optional_item, item_of_list, item_carried}
-use Rattle.wide_translation.proofs.Steps.{MeansBy, let_held, held_is, held_is_no_variables, guarded_means, after, flat_holds}
+use Rattle.wide_translation.specs.Translated.{present_item_of, optional_item, item_of_list, item_carried}
+use Rattle.wide_translation.proofs.Steps.{MeansBy, let_held, held_is, held_is_no_variables, guarded_means, after}
+use Rattle.wide_translation.proofs.Steps.{flat_holds}
 
 -- the item n of a value or the error as an optional value
 abbrev item_outcome : ValueOrError → ℕ → Outcome
@@ -111,19 +113,61 @@ item_kind : (x : ValueOrError) (n : ℕ) → IsOptionalOf kind.Dyn (item_outcome
 item_kind error n = tt
 item_kind (value v) n = at_kind v n
 
--- the item of a value
-item_by : (b : Bool) (t : Tree) (y : ValueOrError) (n : ℕ) (env : Environment) → meaning t env ≡ y → Carries (optional_item b t n) (item_outcome y n) env
+-- a value that is known to be a list has the item; the error stays
+is_below : (a : Tree) (n : ℕ) (env : Environment) → meaning (is_below_tree a n) env ≡ less_of (value (int (pos n))) (size_of (sum_of (meaning a env) (value (list no_items))))
+unfolding meaning meanings is_has function_named
+is_below a n env = refl
+
+list_has : (x : Outcome) (n : ℕ) → IsOfKind kind.List x → less_of (value (int (pos n))) (size_of (sum_of (plain_part x) (value (list no_items)))) ≡ guard_part (item_outcome (plain_part x) n)
+list_has failed n h = refl
+list_has (of_value (list is)) n h = present_item (value (list is)) n
+list_has (of_value null) n h = absurd (cc)
+list_has (of_value (boolean b)) n h = absurd (cc)
+list_has (of_value (int z)) n h = absurd (cc)
+list_has (of_value (text s)) n h = absurd (cc)
+list_has (of_value (map es)) n h = absurd (cc)
+list_has absent n h = absurd h
+list_has (present v) n h = absurd h
+
+present_again : (a : Tree) (n : ℕ) (x : Outcome) (env : Environment) → meaning a env ≡ plain_part x
+    → meaning (present_item_tree a n) env ≡ guard_part (item_outcome (plain_part x) n)
+present_again a n x env m = present_item_means a n env ∙ ap (λ z. guard_part (item_outcome z n)) m
+
+present_item_of_means : (k : ValueKind) (a : Tree) (n : ℕ) (x : Outcome) (env : Environment) → IsOfKind k x → meaning a env ≡ plain_part x
+    → meaning (present_item_of k a n) env ≡ guard_part (item_outcome (plain_part x) n)
+present_item_of_means kind.List a n x env h m =
+    is_below a n env ∙ ap (λ y. less_of (value (int (pos n))) (size_of (sum_of y (value (list no_items))))) m ∙ list_has x n h
+present_item_of_means kind.Null a n x env h m = present_again a n x env m
+present_item_of_means kind.Bool a n x env h m = present_again a n x env m
+present_item_of_means kind.Int a n x env h m = present_again a n x env m
+present_item_of_means kind.String a n x env h m = present_again a n x env m
+present_item_of_means kind.Map a n x env h m = present_again a n x env m
+present_item_of_means kind.Dyn a n x env h m = present_again a n x env m
+
+present_item_of_free : (k : ValueKind) (a : Tree) (n : ℕ) → is_variables (present_item_of k a n) ≡ false
 unfolding is_variables
-item_by true t y n env m = record {
-  guard = present_item_means t n env ∙ ap (λ z. guard_part (item_outcome z n)) m;
+present_item_of_free kind.List a n = refl
+present_item_of_free kind.Null a n = refl
+present_item_of_free kind.Bool a n = refl
+present_item_of_free kind.Int a n = refl
+present_item_of_free kind.String a n = refl
+present_item_of_free kind.Map a n = refl
+present_item_of_free kind.Dyn a n = refl
+
+-- the item of a value
+item_by : (b : Bool) (k : ValueKind) (t : Tree) (x : Outcome) (n : ℕ) (env : Environment) → IsOfKind k x → meaning t env ≡ plain_part x
+    → Carries (optional_item b k t n) (item_outcome (plain_part x) n) env
+unfolding is_variables
+item_by true k t x n env h m = record {
+  guard = present_item_of_means k t n x env h m;
   value = item_means t n env ∙ ap (λ z. value_part (item_outcome z n)) m;
-  kind = item_kind y n;
+  kind = item_kind (plain_part x) n;
   free = refl;
-  guard_free = refl;
+  guard_free = present_item_of_free k t n;
 }
-item_by false t y n env m = record {
+item_by false k t x n env h m = record {
   list = let_held (λ a. item_list_tree a n) (λ z. list_part (item_outcome z n)) t env (item_list_means n) refl ∙ ap (λ z. list_part (item_outcome z n)) m;
-  kind = item_kind y n;
+  kind = item_kind (plain_part x) n;
 }
 
 plain_same : (k : ValueKind) (x : Outcome) (n : ℕ) → IsOfKind k x → item_outcome (plain_part x) n ≡ index_in Optional x (of_value (int (pos n)))
@@ -156,7 +200,7 @@ list_item o k l x n env h =
 -- the item of an operand, but for `e[n]` of a value
 pub item_holds : (n : ℕ) (c : Carried) (x : Outcome) (env : Environment) → Carries c x env → Carries (item_carried n c) (index_in Optional x (of_value (int (pos n)))) env
 item_holds n (plain k t) x env h =
-    subst (λ (y : Outcome). Carries (optional_item (is_simple t) t n) y env) (plain_same k x n h.kind) (item_by (is_simple t) t (plain_part x) n env h.means)
+    subst (λ (y : Outcome). Carries (optional_item (is_simple t) k t n) y env) (plain_same k x n h.kind) (item_by (is_simple t) k t x n env h.kind h.means)
 item_holds n (guarded k g t) x env h = list_item Optional k (guarded_tree g t) x n env (record { list = guarded_means g t x env h.guard h.value; kind = h.kind })
 item_holds n (listed k l) x env h = list_item Optional k l x n env h
 

@@ -3,7 +3,9 @@ pub mod Environments
 pub mod Steps
 pub mod FieldsHold
 pub mod OperatorsHold
+pub mod EntriesHold
 pub mod FormsHold
+pub mod ListsHold
 pub mod OptionalHold
 pub mod CallsHold
 pub mod ItemsHold
@@ -15,3 +17,4 @@ pub mod WideViews
 pub mod Depths
 pub mod Arms
 pub mod ItemSteps
+pub mod EntrySteps

@@ -1,35 +1,37 @@
 -- Operators, conditionals, and literals of lists and maps.
 use Rattle.std.specs.Prelude.{⊤}
-use Rattle.std.proofs.Common.{◌≡◌, Bool, true, false, not, List, [], ◌∷◌, Option, Some, None, option_map, ◌&&◌, refl, ap, sym, ◌∙◌, subst}
+use Rattle.std.proofs.Common.{◌≡◌, Bool, true, false, not, List, [], ◌∷◌, Option, Some, None, option_map, ◌&&◌, refl}
+use Rattle.std.proofs.Common.{ap, sym, ◌∙◌, subst}
 use Rattle.cel_reader.specs.Tree as tree
-use Rattle.cel_reader.specs.Tree.{Tree, Trees, no_trees, more_trees}
+use Rattle.cel_reader.specs.Tree.{Tree, Trees, no_trees, more_trees, TreeEntries, no_entries as no_tree_entries}
+use Rattle.cel_reader.specs.Tree.{more_entries}
 use Rattle.cel_reader.specs.declared.operator.BinaryOperator.{BinaryOperator}
 use Rattle.cel_reader.specs.declared.operator.BinaryOperator.TheVariants as binary
 use Rattle.cel_reader.specs.declared.operator.UnaryOperator.{UnaryOperator}
-use Rattle.value_store.specs.Value.{Value, ValueOrError, error, value, null, boolean, int, text, list, map, item, Entries as ValueEntries}
+use Rattle.value_store.specs.Value.{Value, ValueOrError, error, value, null, boolean, int, text, list, map, item}
 use Rattle.cel_macros.specs.Arithmetic.{sum_of}
 use Rattle.value_store.specs.Equality.{equal}
 use Rattle.cel_macros.specs.Comparison.{equal_of, unequal_of}
 use Rattle.cel_macros.specs.Environment.{Environment}
-use Rattle.cel_macros.specs.Literals.{list_literal, list_or_error, map_or_error, with_value, values_in, entries_in, with_entry, text_part}
+use Rattle.cel_macros.specs.Literals.{list_literal, list_or_error, with_value, values_in}
 use Rattle.cel_macros.specs.Logic.{Truth, Yes, No, Other, truth, chosen, ternary_of}
 unfoldable use Rattle.cel_macros.specs.Macros.{is_variables}
 use Rattle.cel_macros.specs.Meaning.{unary_of, binary_of}
 unfoldable use Rattle.cel_macros.specs.Meaning.{meaning, meanings, entry_meanings}
 use Rattle.wide_reader.specs.declared.wide.Access.{Access, TheVariants.Plain, TheVariants.Optional}
-use Rattle.wide_meaning.specs.Operators.{same, tested, binary_in, unary_in, ternary_in, item_in, entry_in, list_in, map_in}
+use Rattle.wide_meaning.specs.Operators.{same, tested, binary_in, unary_in, ternary_in, item_in, list_in}
 use Rattle.wide_meaning.specs.Outcome.{Outcome, failed, plain as of_value, absent, present, outcome_of, plain_part}
 use Rattle.wide_kinds.proofs.Fitting.{kinds_hold}
 use Rattle.wide_kinds.specs.declared.kind.ValueKind.{ValueKind}
 use Rattle.wide_kinds.specs.declared.kind.ValueKind.TheVariants as kind
 use Rattle.wide_kinds.specs.Kinds.{unary_kind, binary_kind, joined_kind}
 use Rattle.wide_kinds.specs.Fitting.{FitsKind, IsOfKind, IsOptionalOf}
-use Rattle.wide_translation.specs.Carried.{Carried, plain, guarded, listed, OptionalValue, Translation, taken, refused}
+use Rattle.wide_translation.specs.Carried.{Carried, plain, guarded, listed, OptionalValue, Translation, taken}
+use Rattle.wide_translation.specs.Carried.{refused}
 use Rattle.wide_translation.specs.Forms.{guarded_tree}
 use Rattle.wide_translation.specs.Holds.{list_part, IsPlain, IsListed, Carries, WideHolds}
 use Rattle.wide_translation.specs.Translated.{on_plain, on_list, equality, binary_carried, ternary_carried, Parts}
-use Rattle.wide_translation.specs.Translated.{parts, no_parts, joined_tree, one_more, Pairs, pairs, no_pairs}
-use Rattle.wide_translation.specs.Translated.{entry_more, list_translation, map_translation}
+use Rattle.wide_translation.specs.Translated.{parts, no_parts, joined_tree, one_more, list_translation}
 use Rattle.wide_translation.proofs.FieldsHold.{part_fits, plain_holds, on_plain_holds, on_list_holds}
 use Rattle.wide_translation.proofs.Steps.{guarded_means}
 
@@ -285,18 +287,10 @@ list_kind : (vs : Option (List Value)) → FitsKind kind.List (list_or_error vs)
 list_kind (Some vs) = refl
 list_kind None = tt
 
-map_kind : (es : Option ValueEntries) → FitsKind kind.Map (map_or_error es)
-map_kind (Some es) = refl
-map_kind None = tt
-
 -- the list of the trees is the list of these values
 abbrev pub PartsHold : Parts → Option (List Value) → Environment → Type 0
 PartsHold (parts ts u) vs env = meaning (joined_tree ts u) env ≡ list_or_error vs
 PartsHold (no_parts e) vs env = ⊤
-
-abbrev pub PairsHold : Pairs → Option ValueEntries → Environment → Type 0
-PairsHold (pairs ts) es env = entries_in (entry_meanings ts env) ≡ es
-PairsHold (no_pairs e) es env = ⊤
 
 -- a list with one more item
 abbrev cons_list : ValueOrError → ValueOrError → ValueOrError
@@ -375,21 +369,3 @@ joined_free (more_trees t ts) None = refl
 pub list_translated : (ps : Parts) (vs : Option (List Value)) (env : Environment) → PartsHold ps vs env → WideHolds (list_translation ps) (list_in vs) env
 list_translated (parts ts u) vs env p = plain_holds kind.List (joined_tree ts u) (list_or_error vs) env p (list_kind vs) (joined_free ts u)
 list_translated (no_parts e) vs env p = tt
-
-pub entry_holds : (o : Access) (t u : Translation) (ps : Pairs) (x y : Outcome) (es : Option ValueEntries) (env : Environment) → WideHolds t x env → WideHolds u y env → PairsHold ps es env
-    → PairsHold (entry_more o t u ps) (entry_in o x y es) env
-unfolding entry_meanings
-entry_holds Plain (taken (plain k t)) (taken (plain l u)) (pairs ts) x y es env h i p = λ j. with_entry (text_part (h.means j)) (i.means j) (p j)
-entry_holds Plain (taken (plain k t)) (taken (plain l u)) (no_pairs e) x y es env h i p = tt
-entry_holds Plain (taken (plain k t)) (taken (guarded l g v)) ps x y es env h i p = tt
-entry_holds Plain (taken (plain k t)) (taken (listed l m)) ps x y es env h i p = tt
-entry_holds Plain (taken (plain k t)) (refused e) ps x y es env h i p = tt
-entry_holds Plain (taken (guarded k g v)) u ps x y es env h i p = tt
-entry_holds Plain (taken (listed k l)) u ps x y es env h i p = tt
-entry_holds Plain (refused e) u ps x y es env h i p = tt
-entry_holds Optional t u ps x y es env h i p = tt
-
-pub map_translated : (ps : Pairs) (es : Option ValueEntries) (env : Environment) → PairsHold ps es env → WideHolds (map_translation ps) (map_in es) env
-unfolding meaning is_variables
-map_translated (pairs ts) es env p = plain_holds kind.Map (tree.map ts) (map_or_error es) env (ap map_or_error p) (map_kind es) refl
-map_translated (no_pairs e) es env p = tt

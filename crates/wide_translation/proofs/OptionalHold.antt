@@ -1,6 +1,6 @@
 -- Optional values from values and from each other, and macros over them.
 use Rattle.std.specs.Prelude.{⊤}
-use Rattle.std.proofs.Common.{◌≡◌, ℕ, List, [], ◌∷◌, refl, ◌∙◌}
+use Rattle.std.proofs.Common.{◌≡◌, ℕ, ◌&&◌, List, [], ◌∷◌, refl, ◌∙◌}
 use Rattle.cel_reader.specs.Tree as tree
 use Rattle.cel_reader.specs.Tree.{Tree}
 use Rattle.value_store.specs.Value.{Value, value, list, no_items}
@@ -14,7 +14,7 @@ unfoldable use Rattle.cel_macros.specs.Meaning.{meaning, meanings}
 use Rattle.wide_reader.specs.declared.wide.OptionalMacro.{OptionalMacro, TheVariants.Map, TheVariants.FlatMap}
 use Rattle.wide_meaning.specs.declared.function.Qualified.{Qualified}
 use Rattle.wide_meaning.specs.declared.function.Qualified.TheVariants as qualified
-use Rattle.wide_meaning.specs.Functions.{qualified_in}
+use Rattle.wide_meaning.specs.Functions.{contained, meeting, qualified_in}
 use Rattle.wide_meaning.specs.Outcome.{Outcome, failed, plain as of_value, absent, present, plain_part, some_of, first_of}
 use Rattle.wide_meaning.specs.Ranges.{over_items, optional_over}
 use Rattle.wide_kinds.specs.declared.kind.ValueKind.{ValueKind}
@@ -30,7 +30,9 @@ use Rattle.wide_translation.specs.Forms.{non_zero_tree}
 use Rattle.wide_translation.proofs.FormsHold.{non_zero_holds}
 use Rattle.wide_translation.specs.Translated.{once}
 use Rattle.wide_translation.specs.Translated.{with_carried, or_carried, qualified_translation, optional_carried}
+use Rattle.wide_translation.specs.Lists.{second, contained_tree, meeting_tree, equivalent_tree}
 use Rattle.wide_translation.proofs.FieldsHold.{with_plain_holds}
+use Rattle.wide_translation.proofs.ListsHold.{sets_holds, contains_test, meets_test, equivalent_test}
 use Rattle.wide_translation.proofs.OperatorsHold.{first_optional, second_optional}
 use Rattle.wide_translation.proofs.Steps.{on_value, let_means, held_is, macro_means, guarded_means, after, flat_holds}
 
@@ -121,25 +123,43 @@ unfolding meaning meanings
 none_holds env = record { list = refl; kind = tt }
 
 pub qualified_holds : (q : Qualified) (n : List ℕ) (ts : List Translation) (xs : List Outcome) (r : Outcome) (env : Environment) → AllHold ts xs env
-    → WideHolds (qualified_translation q n ts) (qualified_in q xs r) env
-qualified_holds qualified.OptionalOf n [] xs r env h = tt
-qualified_holds qualified.OptionalOf n (t ∷ []) (x ∷ []) r env h =
+    → ((v : Value) → AllHold ts xs (bind held_name v env)) → WideHolds (qualified_translation q n ts) (qualified_in q xs r) env
+qualified_holds qualified.OptionalOf n [] xs r env h s = tt
+qualified_holds qualified.OptionalOf n (t ∷ []) (x ∷ []) r env h s =
     with_plain_holds t (λ k a. taken (listed k (one_tree a))) x (some_of x) env h.0 (λ k a i. one_holds k a x env i)
-qualified_holds qualified.OptionalOf n (t ∷ []) [] r env h = absurd h
-qualified_holds qualified.OptionalOf n (t ∷ []) (x ∷ y ∷ ys) r env h = absurd h.1
-qualified_holds qualified.OptionalOf n (t ∷ u ∷ ts) xs r env h = tt
-qualified_holds qualified.OptionalNone n [] [] r env h = none_holds env
-qualified_holds qualified.OptionalNone n [] (x ∷ xs) r env h = absurd h
-qualified_holds qualified.OptionalNone n (t ∷ ts) xs r env h = tt
-qualified_holds qualified.OptionalOfNonZeroValue n [] xs r env h = tt
-qualified_holds qualified.OptionalOfNonZeroValue n (t ∷ []) (x ∷ []) r env h =
+qualified_holds qualified.OptionalOf n (t ∷ []) [] r env h s = absurd h
+qualified_holds qualified.OptionalOf n (t ∷ []) (x ∷ y ∷ ys) r env h s = absurd h.1
+qualified_holds qualified.OptionalOf n (t ∷ u ∷ ts) xs r env h s = tt
+qualified_holds qualified.OptionalNone n [] [] r env h s = none_holds env
+qualified_holds qualified.OptionalNone n [] (x ∷ xs) r env h s = absurd h
+qualified_holds qualified.OptionalNone n (t ∷ ts) xs r env h s = tt
+qualified_holds qualified.OptionalOfNonZeroValue n [] xs r env h s = tt
+qualified_holds qualified.OptionalOfNonZeroValue n (t ∷ []) (x ∷ []) r env h s =
     with_plain_holds t (λ k a. taken (listed k (once a non_zero_tree))) x (some_unless_zero x) env h.0 (λ k a i. non_zero_holds k a x env i)
-qualified_holds qualified.OptionalOfNonZeroValue n (t ∷ []) [] r env h = absurd h
-qualified_holds qualified.OptionalOfNonZeroValue n (t ∷ []) (x ∷ y ∷ ys) r env h = absurd h.1
-qualified_holds qualified.OptionalOfNonZeroValue n (t ∷ u ∷ ts) xs r env h = tt
-qualified_holds qualified.SetsContains n ts xs r env h = tt
-qualified_holds qualified.SetsIntersects n ts xs r env h = tt
-qualified_holds qualified.SetsEquivalent n ts xs r env h = tt
+qualified_holds qualified.OptionalOfNonZeroValue n (t ∷ []) [] r env h s = absurd h
+qualified_holds qualified.OptionalOfNonZeroValue n (t ∷ []) (x ∷ y ∷ ys) r env h s = absurd h.1
+qualified_holds qualified.OptionalOfNonZeroValue n (t ∷ u ∷ ts) xs r env h s = tt
+qualified_holds qualified.SetsContains n [] xs r env h s = tt
+qualified_holds qualified.SetsContains n (t ∷ []) xs r env h s = tt
+qualified_holds qualified.SetsContains n (t ∷ u ∷ v ∷ ts) xs r env h s = tt
+qualified_holds qualified.SetsContains n (t ∷ u ∷ []) [] r env h s = absurd h
+qualified_holds qualified.SetsContains n (t ∷ u ∷ []) (x ∷ []) r env h s = absurd h.1
+qualified_holds qualified.SetsContains n (t ∷ u ∷ []) (x ∷ y ∷ z ∷ zs) r env h s = absurd h.1.1
+qualified_holds qualified.SetsContains n (t ∷ u ∷ []) (x ∷ y ∷ []) r env h s = sets_holds (contained_tree second held) (λ xs ys. contained ys xs) t u x y env contains_test h.0 (λ v. (s v).1.0)
+qualified_holds qualified.SetsIntersects n [] xs r env h s = tt
+qualified_holds qualified.SetsIntersects n (t ∷ []) xs r env h s = tt
+qualified_holds qualified.SetsIntersects n (t ∷ u ∷ v ∷ ts) xs r env h s = tt
+qualified_holds qualified.SetsIntersects n (t ∷ u ∷ []) [] r env h s = absurd h
+qualified_holds qualified.SetsIntersects n (t ∷ u ∷ []) (x ∷ []) r env h s = absurd h.1
+qualified_holds qualified.SetsIntersects n (t ∷ u ∷ []) (x ∷ y ∷ z ∷ zs) r env h s = absurd h.1.1
+qualified_holds qualified.SetsIntersects n (t ∷ u ∷ []) (x ∷ y ∷ []) r env h s = sets_holds (meeting_tree held second) meeting t u x y env meets_test h.0 (λ v. (s v).1.0)
+qualified_holds qualified.SetsEquivalent n [] xs r env h s = tt
+qualified_holds qualified.SetsEquivalent n (t ∷ []) xs r env h s = tt
+qualified_holds qualified.SetsEquivalent n (t ∷ u ∷ v ∷ ts) xs r env h s = tt
+qualified_holds qualified.SetsEquivalent n (t ∷ u ∷ []) [] r env h s = absurd h
+qualified_holds qualified.SetsEquivalent n (t ∷ u ∷ []) (x ∷ []) r env h s = absurd h.1
+qualified_holds qualified.SetsEquivalent n (t ∷ u ∷ []) (x ∷ y ∷ z ∷ zs) r env h s = absurd h.1.1
+qualified_holds qualified.SetsEquivalent n (t ∷ u ∷ []) (x ∷ y ∷ []) r env h s = sets_holds (equivalent_tree held second) (λ xs ys. contained xs ys && contained ys xs) t u x y env equivalent_test h.0 (λ v. (s v).1.0)
 
 -- ---- macros
 

@@ -8,19 +8,20 @@ use Rattle.cel_reader.specs.Tree as tree
 use Rattle.value_store.specs.Value.{Value, ValueOrError, error}
 use Rattle.cel_macros.specs.Environment.{Environment, Roots, lookup, root_bindings, value_or_error}
 unfoldable use Rattle.cel_macros.specs.Environment.{name_value, variable_value}
-unfoldable use Rattle.cel_macros.specs.Macros.{is_variables}
-unfoldable use Rattle.cel_macros.specs.Meaning.{meaning}
+unfoldable use Rattle.cel_macros.specs.Macros.{is_variables, is_has}
+unfoldable use Rattle.cel_macros.specs.Functions.{function_named}
+unfoldable use Rattle.cel_macros.specs.Meaning.{meaning, meanings}
 use Rattle.wide_reader.specs.Tree.{Wide}
 use Rattle.wide_meaning.specs.Environment.{WideEnvironment, root_in, plain_or_failed}
 use Rattle.wide_meaning.specs.Meaning.{wide_meaning}
 use Rattle.wide_meaning.specs.Outcome.{Outcome, plain_part}
 use Rattle.wide_kinds.specs.declared.kind.Kind.{Kind, TheVariants.Value as OfValue, TheVariants.Optional as OfOptional}
-use Rattle.wide_translation.specs.Scope.{scope_of}
-use Rattle.wide_translation.specs.Forms.{root_tree}
+use Rattle.wide_translation.specs.Scope.{scope_of, condition_scope}
+use Rattle.wide_translation.specs.Forms.{null_tree, placed_tree}
 use Rattle.wide_translation.specs.Holds.{Declared, WideStandsFor}
-use Rattle.wide_translation.specs.Names.{params_name, params_field}
-use Rattle.wide_translation.specs.Placed.{placed, wide_environment, environment, WideStep, kind_of, AreTranslated}
-use Rattle.wide_translation.specs.Placed.{with_outcome, with_value, PolicyMeansTheSame}
+use Rattle.wide_translation.specs.Names.{namespace_name, params_name, params_field}
+use Rattle.wide_translation.specs.Placed.{placed, condition_roots, wide_environment, environment, WideStep, kind_of, AreTranslated}
+use Rattle.wide_translation.specs.Placed.{with_outcome, with_value, PolicyMeansTheSame, ConditionMeansTheSame}
 use Rattle.wide_translation.specs.Results.{WideMeans, IsCarried}
 
 -- ---- roots
@@ -40,10 +41,37 @@ root_by true n ts roots vs h = ap (λ m. plain_part (root_in m roots)) ((bytes_d
 root_by false n ts roots vs h = ap value_or_error (other_root n ts roots h) ∙ part_of_option (lookup n (root_bindings roots))
 
 rooted : (w : Bool) (n : List ℕ) (ts : Value) (roots : Roots) (vs : List (List ℕ × ValueOrError))
-    → meaning (root_tree w n) (environment (placed w ts roots) vs) ≡ plain_part (root_in n roots)
+    → meaning (placed_tree w n) (environment (placed w ts roots) vs) ≡ plain_part (root_in n roots)
 unfolding meaning name_value
 rooted true n ts roots vs = root_by (bytes_eq params_name n) n ts roots vs refl
 rooted false n ts roots vs = part_of_option (lookup n (root_bindings roots))
+
+-- ---- match conditions
+
+-- a name that is not `namespaceObject`
+other_than_namespace : (n : List ℕ) (roots : Roots) → bytes_eq namespace_name n ≡ false
+    → lookup n (root_bindings roots) ≡ lookup n (root_bindings (condition_roots roots))
+other_than_namespace n roots h = grind (arith, h)
+
+condition_by : (b : Bool) (w : Bool) (n : List ℕ) (ts : Value) (roots : Roots) → bytes_eq namespace_name n ≡ b
+    → meaning (if b then null_tree else placed_tree w n) (environment (placed w ts roots) []) ≡ plain_part (root_in n (condition_roots roots))
+unfolding meaning meanings is_has function_named
+condition_by true w n ts roots h = ap (λ m. plain_part (root_in m (condition_roots roots))) ((bytes_decides namespace_name n).0 h)
+condition_by false w n ts roots h = rooted w n ts roots [] ∙ ap (λ o. plain_part (plain_or_failed o)) (other_than_namespace n roots h)
+
+condition_stands : (w : Bool) (ts : Value) (roots : Roots)
+    → WideStandsFor (condition_scope w) (wide_environment (condition_roots roots) []) (environment (placed w ts roots) [])
+unfolding variable_value
+condition_stands w ts roots = record {
+  named = λ n. tt;
+  rooted = λ n g. condition_by (bytes_eq namespace_name n) w n ts roots refl;
+  declared = λ n. tt;
+  apart = λ n i. absurd (cc);
+}
+
+pub condition_same : ConditionMeansTheSame
+condition_same others w ts roots e k a m =
+    m others (wide_environment (condition_roots roots) []) (environment (placed w ts roots) []) (condition_stands w ts roots)
 
 -- ---- variables
 

@@ -1,13 +1,13 @@
 -- A translation carries what the wide expression means.
 use Rattle.std.proofs.Common.{◌≡◌, ℕ, pos, negsuc, nat_lt, Bool, true, false, List, [], Some, None, if◌then◌else◌, refl}
 use Rattle.cel_reader.specs.Tree as tree
-use Rattle.cel_reader.specs.Tree.{Literal, no_trees, no_entries}
+use Rattle.cel_reader.specs.Tree.{Literal, no_trees}
 use Rattle.value_store.specs.Value.{Value, int, text, no_entries as no_value_entries}
 use Rattle.cel_macros.specs.Environment.{Environment, bind}
 use Rattle.cel_macros.specs.Literals.{literal_of}
 use Rattle.cel_macros.specs.Macros.{range_of}
 unfoldable use Rattle.cel_macros.specs.Macros.{is_variables}
-unfoldable use Rattle.cel_macros.specs.Meaning.{meaning, meanings, entry_meanings}
+unfoldable use Rattle.cel_macros.specs.Meaning.{meaning, meanings}
 use Rattle.wide_reader.specs.Tree as wide
 use Rattle.wide_reader.specs.Tree.{Wide, Wides, WideItems, WideEntries}
 use Rattle.wide_reader.specs.declared.wide.Macro.{Macro}
@@ -31,13 +31,14 @@ use Rattle.wide_translation.specs.Names.{held_name, is_taken}
 use Rattle.wide_translation.specs.Scope.{WideScope, within}
 use Rattle.wide_translation.specs.Translated.{operand, compares, with_carried, with_plain, on_list, optional_carried}
 use Rattle.wide_translation.specs.Translated.{has_carried, binary_carried, ternary_carried, fold_carried, index_carried}
-use Rattle.wide_translation.specs.Translated.{text_literal, count_literal, parts, pairs}
+use Rattle.wide_translation.specs.Translated.{text_literal, count_literal, parts, no_parts_left, pairs}
 unfoldable use Rattle.wide_translation.specs.Translated.{translated, all_translated, items_translated, entries_translated}
 use Rattle.wide_translation.proofs.Environments.{both_bound, held_bound}
 use Rattle.wide_translation.proofs.FieldsHold.{plain_holds, with_holds, with_plain_holds, on_list_holds, root_holds}
 use Rattle.wide_translation.proofs.FieldsHold.{name_holds, selected_holds, has_holds}
-use Rattle.wide_translation.proofs.OperatorsHold.{unary_holds, binary_holds, ternary_holds, PartsHold, PairsHold}
-use Rattle.wide_translation.proofs.OperatorsHold.{part_more, list_translated, entry_holds, map_translated}
+use Rattle.wide_translation.proofs.OperatorsHold.{unary_holds, binary_holds, ternary_holds, PartsHold}
+use Rattle.wide_translation.proofs.OperatorsHold.{part_more, list_translated}
+use Rattle.wide_translation.proofs.EntriesHold.{PairsHold, entry_holds, map_translated}
 use Rattle.wide_translation.proofs.CallsHold.{call_holds, method_called_holds}
 use Rattle.wide_translation.proofs.OptionalHold.{AllHold, optional_holds}
 use Rattle.wide_translation.proofs.RangesHold.{IsText, IsCount, index_holds, over_holds, fold_holds, filter_map_holds}
@@ -72,8 +73,7 @@ module _ (others : Wide → WideEnvironment → Outcome) where
   unfolding meaning meanings
   no_parts_hold env = refl
 
-  no_pairs_hold : (env : Environment) → PairsHold (pairs no_entries) (Some no_value_entries) env
-  unfolding entry_meanings
+  no_pairs_hold : (env : Environment) → PairsHold (pairs no_parts_left) (Some no_value_entries) env
   no_pairs_hold env = refl
 
   unsigned_by : (b : Bool) (n : ℕ) (env' : Environment)

@@ -19,14 +19,17 @@ use Rattle.cel_macros.specs.declared.macros.Macro.{Macro, TheVariants.All, TheVa
 use Rattle.cel_macros.specs.declared.macros.Macro.{TheVariants.Filter, TheVariants.Map}
 use Rattle.cel_macros.specs.Meaning.{selected}
 unfoldable use Rattle.cel_macros.specs.Meaning.{meaning, operand_meaning, meanings}
-use Rattle.wide_meaning.specs.Outcome.{Outcome, failed, plain, absent, present, optional_of}
+use Rattle.wide_meaning.specs.Outcome.{Outcome, failed, plain, absent, present, optional_of, plain_part}
+use Rattle.wide_kinds.specs.declared.kind.ValueKind.{ValueKind}
+use Rattle.wide_kinds.specs.declared.kind.ValueKind.TheVariants as kind
+use Rattle.wide_kinds.specs.Fitting.{IsOfKind}
 use Rattle.wide_meaning.specs.Access.{sel}
 use Rattle.wide_meaning.specs.Ranges.{over_items, filter_map_over}
 use Rattle.wide_translation.specs.Forms.{one_tree, macro_tree, filter_map_tree, let_tree, held, has_tree, access_tree}
 use Rattle.wide_translation.specs.Forms.{present_tree, field_list_tree, guarded_tree, flat_tree, is_simple}
 use Rattle.wide_translation.specs.Holds.{guard_part, value_part, list_part}
 use Rattle.wide_translation.specs.Names.{held_name}
-use Rattle.wide_translation.specs.Translated.{once}
+use Rattle.wide_translation.specs.Translated.{once, present_of}
 use Rattle.wide_translation.proofs.Environments.{this_name}
 
 -- what follows from a value; the error for the error
@@ -91,7 +94,7 @@ held_is_no_variables = refl
 abbrev pub MeansBy : (Tree → Tree) → (ValueOrError → ValueOrError) → Type 0
 MeansBy b f = (a : Tree) (env : Environment) → is_variables a ≡ false → meaning (b a) env ≡ f (meaning a env)
 
-strict : (f : ValueOrError → ValueOrError) (x : ValueOrError) → f error ≡ error → on_value (λ v. f (value v)) x ≡ f x
+pub strict : (f : ValueOrError → ValueOrError) (x : ValueOrError) → f error ≡ error → on_value (λ v. f (value v)) x ≡ f x
 strict f error h = sym h
 strict f (value v) h = refl
 
@@ -200,6 +203,51 @@ unfolding meaning
 present_means a f env =
     (λ j. and_of (unequal_of (meaning a env) (value null)) (has_any_means (is_selector f) a f env j))
     ∙ null_or_has (is_selector f) (meaning a env) f
+
+-- a value that is known to be a map has the field; the error stays
+map_has : (b : Bool) (x : Outcome) (f : List ℕ) → IsOfKind kind.Map x → has_any b (plain_part x) f ≡ guard_part (field_outcome (plain_part x) f)
+map_has true failed f h = refl
+map_has false failed f h = refl
+map_has b (plain (map es)) f h = has_any_of_map b es f
+map_has b (plain null) f h = absurd (cc)
+map_has b (plain (boolean c)) f h = absurd (cc)
+map_has b (plain (int z)) f h = absurd (cc)
+map_has b (plain (text s)) f h = absurd (cc)
+map_has b (plain (list is)) f h = absurd (cc)
+map_has b absent f h = absurd h
+map_has b (present v) f h = absurd h
+
+present_again : (a : Tree) (f : List ℕ) (x : Outcome) (env : Environment) → meaning a env ≡ plain_part x
+    → meaning (present_tree a f) env ≡ guard_part (field_outcome (plain_part x) f)
+present_again a f x env m = present_means a f env ∙ ap (λ y. guard_part (field_outcome y f)) m
+
+pub present_of_means : (k : ValueKind) (a : Tree) (f : List ℕ) (x : Outcome) (env : Environment) → IsOfKind k x → meaning a env ≡ plain_part x
+    → meaning (present_of k a f) env ≡ guard_part (field_outcome (plain_part x) f)
+present_of_means kind.Map a f x env h m =
+    has_any_means (is_selector f) a f env ∙ ap (λ y. has_any (is_selector f) y f) m ∙ map_has (is_selector f) x f h
+present_of_means kind.Null a f x env h m = present_again a f x env m
+present_of_means kind.Bool a f x env h m = present_again a f x env m
+present_of_means kind.Int a f x env h m = present_again a f x env m
+present_of_means kind.String a f x env h m = present_again a f x env m
+present_of_means kind.List a f x env h m = present_again a f x env m
+present_of_means kind.Dyn a f x env h m = present_again a f x env m
+
+-- these tests are not `variables`
+has_any_free : (b : Bool) (a : Tree) (f : List ℕ)
+    → is_variables (if b then has_tree a f else tree.ternary (has_tree a (codes "a")) (tree.binary In (tree.literal (tree.text f)) a) (tree.binary In (tree.literal (tree.text f)) a)) ≡ false
+unfolding is_variables
+has_any_free true a f = refl
+has_any_free false a f = refl
+
+pub present_of_free : (k : ValueKind) (a : Tree) (f : List ℕ) → is_variables (present_of k a f) ≡ false
+unfolding is_variables
+present_of_free kind.Map a f = has_any_free (is_selector f) a f
+present_of_free kind.Null a f = refl
+present_of_free kind.Bool a f = refl
+present_of_free kind.Int a f = refl
+present_of_free kind.String a f = refl
+present_of_free kind.List a f = refl
+present_of_free kind.Dyn a f = refl
 
 -- ---- optional values
 

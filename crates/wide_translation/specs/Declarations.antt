@@ -1,5 +1,5 @@
 -- Scopes, trees and errors of the code as plain data.
-use Rattle.std.specs.Prelude.{◌≡◌, ℕ, Bool, true, false, List, Result, Ok, Err, map, string_bytes}
+use Rattle.std.specs.Prelude.{◌≡◌, ℕ, Bool, true, false, List, [], ◌∷◌, Result, Ok, Err, map, string_bytes}
 use Rattle.cel_reader.specs.Tree.{Tree, view}
 use Rattle.wide_kinds.specs.declared.kind.Kind.{Kind}
 use Rattle.wide_translation.specs.declared.carried.Carried.{Carried as CodeCarried}
@@ -12,10 +12,11 @@ use Rattle.wide_translation.specs.declared.scope.Variable.{Variable}
 use Rattle.wide_translation.specs.declared.translated.Translated.{Translated}
 use Rattle.wide_translation.specs.declared.translation_error.TranslationError.{TranslationError}
 use Rattle.wide_translation.specs.declared.translation_error.TranslationError.TheVariants as error
-use Rattle.wide_translation.specs.Carried.{Carried, plain, guarded, listed, WideFault, UnknownName, OptionalValue}
-use Rattle.wide_translation.specs.Carried.{TakenName, UnsignedInt, Unsupported, Translation, taken, refused}
-use Rattle.wide_translation.specs.Parts.{IsFinished}
-use Rattle.wide_translation.specs.Scope.{WideScope, within, scope_of}
+use Rattle.wide_translation.specs.Carried.{Carried, plain, guarded, listed, WideFault, UnknownName, OptionalValue, TakenName, UnsignedInt, OptionalEntry, Unsupported, Translation, taken, refused}
+use Rattle.wide_translation.specs.Parts.{IsFinished, EntryParts, no_parts_left, entry_part, optional_part, Pairs, pairs, no_pairs}
+use Rattle.wide_translation.specs.declared.entry_part.EntryPart.{EntryPart}
+use Rattle.wide_translation.specs.declared.entry_part.EntryPart.TheVariants as entry
+use Rattle.wide_translation.specs.Scope.{WideScope, within, scope_of, condition_scope}
 
 -- a variable and its kind
 abbrev pub declaration : Variable → List ℕ × Kind
@@ -24,6 +25,7 @@ declaration v = (string_bytes v.name, v.kind)
 -- one layer of names, and the scope of the names around it
 abbrev pub scope_step : Names-F WideScope → WideScope
 scope_step (layer.Outside variables wrapped) = scope_of wrapped (map declaration variables.now)
+scope_step (layer.Condition wrapped) = condition_scope wrapped
 scope_step (layer.Within n k outer) = within n.now k outer.now
 
 -- the scope of the code's names
@@ -47,6 +49,7 @@ fault_of (error.UnknownName n) = UnknownName (string_bytes n)
 fault_of error.OptionalValue = OptionalValue
 fault_of (error.TakenName n) = TakenName (string_bytes n)
 fault_of error.UnsignedInt = UnsignedInt
+fault_of error.OptionalEntry = OptionalEntry
 fault_of error.Unsupported = Unsupported
 fault_of error.Memory = Unsupported
 
@@ -68,3 +71,23 @@ IsTranslation t (Err e) = IsRefusal t e
 abbrev pub ReturnsCarried : Translation → Result CodeCarried TranslationError → Type 0
 ReturnsCarried t (Ok c) = t ≡ taken (carried_view c)
 ReturnsCarried t (Err e) = IsRefusal t e
+
+-- an entry of the code before others
+abbrev pub part_step : EntryPart → EntryParts → EntryParts
+part_step (entry.Always k v) ps = entry_part (view k) (view v) ps
+part_step (entry.Optional f g v) ps = optional_part (string_bytes f) (view g) (view v) ps
+
+-- the entries of the code
+abbrev pub parts_of : List EntryPart → EntryParts
+parts_of [] = no_parts_left
+parts_of (p ∷ more) = part_step p (parts_of more)
+
+-- an entry of the code before others, or the first fault
+abbrev pub with_part : EntryPart → Pairs → Pairs
+with_part p (pairs ps) = pairs (part_step p ps)
+with_part p (no_pairs e) = no_pairs e
+
+-- what the code returns is the entry that comes before any others, or the error of its fault
+abbrev pub ReturnsEntryPart : (Pairs → Pairs) → Result EntryPart TranslationError → Type 0
+ReturnsEntryPart f (Ok p) = (ps : Pairs) → f ps ≡ with_part p ps
+ReturnsEntryPart f (Err e) = is_memory e ≡ false → (ps : Pairs) → f ps ≡ no_pairs (fault_of e)

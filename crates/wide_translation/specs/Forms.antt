@@ -9,7 +9,8 @@ use Rattle.cel_reader.specs.declared.operator.BinaryOperator.{TheVariants.Less, 
 use Rattle.cel_macros.specs.Macros.{macro_name, variables_name}
 use Rattle.cel_macros.specs.declared.macros.Macro.{Macro, TheVariants.Map}
 use Rattle.wide_meaning.specs.Functions.{true_texts, false_texts}
-use Rattle.wide_translation.specs.Names.{held_name, params_name, params_field}
+use Rattle.wide_translation.specs.Names.{held_name, namespace_name, params_name, params_field}
+use Rattle.wide_translation.specs.Scope.{WideScope}
 
 -- a list literal without items, with one, and with two
 abbrev pub empty_tree : Tree
@@ -130,19 +131,31 @@ text_bool_tree a =
     tree.ternary (tree.binary In a (tree.list (text_trees true_texts))) (tree.literal (tree.truth true))
     (tree.ternary (tree.binary In a (tree.list (text_trees false_texts))) (tree.literal (tree.truth false)) error_tree)
 
+-- null, of a type that is not known
+abbrev pub null_tree : Tree
+null_tree = call_tree (codes "dyn") (tree.literal tree.null)
+
 -- a root; `params` is a field of its root if that has tables too
-abbrev pub root_tree : Bool → List ℕ → Tree
-root_tree wrapped n = if wrapped && bytes_eq params_name n then tree.select (tree.name params_name) params_field else tree.name n
+abbrev pub placed_tree : Bool → List ℕ → Tree
+placed_tree wrapped n = if wrapped && bytes_eq params_name n then tree.select (tree.name params_name) params_field else tree.name n
+
+-- a root in this scope; in match conditions `namespaceObject` is null
+abbrev pub root_tree : WideScope → List ℕ → Tree
+root_tree s n = if s.condition && bytes_eq namespace_name n then null_tree else placed_tree s.wrapped n
 
 -- variables.f
 abbrev pub variable_tree : List ℕ → Tree
 variable_tree f = tree.select (tree.name variables_name) f
 
+-- whether a list a has an item n: n < size(a + [])
+abbrev pub is_below_tree : Tree → ℕ → Tree
+is_below_tree a n =
+    tree.binary Less (tree.literal (tree.int (pos n))) (call_tree (codes "size") (tree.binary Add a empty_tree))
+
 -- whether a has an item n: a == null ? false : n < size(a + [])
 abbrev pub present_item_tree : Tree → ℕ → Tree
 present_item_tree a n =
-    tree.ternary (tree.binary Equal a (tree.literal tree.null)) (tree.literal (tree.truth false))
-    (tree.binary Less (tree.literal (tree.int (pos n))) (call_tree (codes "size") (tree.binary Add a empty_tree)))
+    tree.ternary (tree.binary Equal a (tree.literal tree.null)) (tree.literal (tree.truth false)) (is_below_tree a n)
 
 -- a[n]
 abbrev pub item_tree : Tree → ℕ → Tree

@@ -85,6 +85,6 @@ Declared None o x = ⊤
 -- the second environment has the values of the names of the first
 pub record WideStandsFor (s : WideScope) (env : WideEnvironment) (env' : Environment) : Type 0 where
   pub named : (n : List ℕ) → WideNamed (lookup n s.names) (lookup n env.items) (name_value n env')
-  pub rooted : (n : List ℕ) → is_root n ≡ true → meaning (root_tree s.wrapped n) env' ≡ plain_part (root_in n env.roots)
+  pub rooted : (n : List ℕ) → is_root n ≡ true → meaning (root_tree s n) env' ≡ plain_part (root_in n env.roots)
   pub declared : (n : List ℕ) → Declared (lookup n s.variables) (lookup n env.variables) (variable_value n env'.variables)
   pub apart : (n : List ℕ) → is_some (lookup n s.names) ≡ true → is_taken n ≡ false

@@ -1,11 +1,17 @@
 -- Forms of the functions of the code that build trees.
-use Rattle.std.specs.Prelude.{ℕ, Bool, true, false, Option, Some, None, codes}
+use Rattle.std.specs.Prelude.{ℕ, pos, Bool, true, false, Option, Some, None, codes}
 use Rattle.cel_reader.specs.Tree as tree
 use Rattle.cel_reader.specs.Tree.{Tree}
-use Rattle.cel_reader.specs.declared.operator.BinaryOperator.{BinaryOperator, TheVariants.Add, TheVariants.Equal, TheVariants.NotEqual}
+use Rattle.cel_reader.specs.declared.operator.BinaryOperator.{BinaryOperator, TheVariants.Add, TheVariants.Equal}
+use Rattle.cel_reader.specs.declared.operator.BinaryOperator.{TheVariants.NotEqual, TheVariants.Subtract}
 use Rattle.wide_reader.specs.Tree as wide
 use Rattle.wide_reader.specs.Tree.{Wide}
-use Rattle.wide_translation.specs.Forms.{empty_tree, call_tree, held, first_tree, is_empty_tree}
+use Rattle.wide_translation.specs.Forms.{empty_tree, one_tree, call_tree, macro_tree, held, first_tree, is_empty_tree}
+use Rattle.wide_translation.specs.Names.{index_name, second_name}
+use Rattle.cel_macros.specs.declared.macros.Macro.TheVariants as plain_macro
+use Rattle.wide_translation.specs.Lists.{each, second, contained_tree, meeting_tree, equivalent_tree}
+use Rattle.wide_meaning.specs.declared.function.Qualified.{Qualified}
+use Rattle.wide_meaning.specs.declared.function.Qualified.TheVariants as qualified
 
 -- size(a + [])
 abbrev pub list_size_tree : Tree → Tree
@@ -29,3 +35,30 @@ abbrev pub is_equality : BinaryOperator → Bool
 is_equality Equal = true
 is_equality NotEqual = true
 is_equality _ = false
+
+-- [t], or [] if the list that the translation's name denotes is empty
+abbrev pub unless_empty_tree : Tree → Tree
+unless_empty_tree t = tree.ternary (is_empty_tree held) empty_tree (one_tree t)
+
+-- the last place in the list that the translation's name denotes
+abbrev pub last_place_tree : Tree
+last_place_tree = tree.binary Subtract (call_tree (codes "size") held) (tree.literal (tree.int (pos 1)))
+
+-- whether an item is in this order with each item of that list, and the first item that is
+abbrev pub before_each_tree : BinaryOperator → Tree
+before_each_tree op = macro_tree plain_macro.All second_name held (tree.binary op each second)
+
+abbrev pub first_before_each_tree : BinaryOperator → Tree
+first_before_each_tree op = first_tree (macro_tree plain_macro.Filter index_name held (before_each_tree op))
+
+-- whether a function tests two sets, and its test of the lists that the translation binds
+abbrev pub is_of_sets : Qualified → Bool
+is_of_sets qualified.SetsContains = true
+is_of_sets qualified.SetsIntersects = true
+is_of_sets qualified.SetsEquivalent = true
+is_of_sets _ = false
+
+abbrev pub sets_test : Qualified → Tree
+sets_test qualified.SetsContains = contained_tree second held
+sets_test qualified.SetsIntersects = meeting_tree held second
+sets_test _ = equivalent_tree held second

@@ -7,10 +7,13 @@ pub mod Parts
 pub mod Declarations
 pub mod Layers
 pub mod Segments
+pub mod Lists
 pub mod Translated
 pub mod Keys
 pub mod Holds
 pub mod Results
 pub mod Placed
 pub mod Laws
+pub mod Written
+pub mod FormRows
 pub mod Rows

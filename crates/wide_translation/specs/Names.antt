@@ -7,6 +7,17 @@ use Rattle.cel_macros.specs.Macros.{variables_name}
 abbrev pub held_name : List ℕ
 held_name = codes "celbpf_a"
 
+-- the iteration names of items that it binds inside
+abbrev pub index_name : List ℕ
+index_name = codes "celbpf_i"
+
+abbrev pub second_name : List ℕ
+second_name = codes "celbpf_b"
+
+-- the root of the namespace
+abbrev pub namespace_name : List ℕ
+namespace_name = codes "namespaceObject"
+
 -- the root of the parameters, and its field that has them if the root also has tables
 abbrev pub params_name : List ℕ
 params_name = codes "params"

@@ -1,16 +1,16 @@
 -- What follows from the translations of parts, and literals of lists and maps.
-use Rattle.std.specs.Prelude.{◌≡◌, Option, Some, None, if◌then◌else◌}
+use Rattle.std.specs.Prelude.{◌≡◌, ℕ, suc, nat_le, List, Option, Some, None, if◌then◌else◌}
 use Rattle.cel_reader.specs.Tree as tree
-use Rattle.cel_reader.specs.Tree.{Tree, Trees, no_trees, more_trees, TreeEntries, more_entries}
-use Rattle.cel_reader.specs.declared.operator.BinaryOperator.{TheVariants.Add}
+use Rattle.cel_reader.specs.Tree.{Tree, Trees, no_trees, more_trees, TreeEntries, no_entries, more_entries}
+use Rattle.cel_reader.specs.declared.operator.BinaryOperator.{TheVariants.Add, TheVariants.NotEqual}
 use Rattle.wide_reader.specs.declared.wide.Access.{Access, TheVariants.Plain, TheVariants.Optional}
 use Rattle.wide_kinds.specs.declared.kind.Kind.{Kind}
 use Rattle.wide_kinds.specs.declared.kind.Kind.TheVariants as of
 use Rattle.wide_kinds.specs.declared.kind.ValueKind.{ValueKind}
 use Rattle.wide_kinds.specs.declared.kind.ValueKind.TheVariants as kind
-use Rattle.wide_translation.specs.Carried.{Carried, plain, guarded, listed, WideFault, OptionalValue, Unsupported}
+use Rattle.wide_translation.specs.Carried.{Carried, plain, guarded, listed, WideFault, OptionalValue, OptionalEntry}
 use Rattle.wide_translation.specs.Carried.{Translation, taken, refused}
-use Rattle.wide_translation.specs.Forms.{guarded_tree, let_tree, held, is_simple}
+use Rattle.wide_translation.specs.Forms.{empty_tree, first_tree, guarded_tree, let_tree, held, is_simple}
 use Rattle.wide_translation.specs.Names.{held_name}
 
 -- ---- translations of parts
@@ -82,23 +82,64 @@ one_more Plain (taken _) ps = no_parts OptionalValue
 one_more Optional (refused e) ps = no_parts e
 one_more Optional (taken c) ps = list_more (as_list c) ps
 
+-- the trees of the entries of a map: a key and its value, or the bytes of a key, a guard and the value if it is true
+pub data EntryParts : Type 0 where
+  no_parts_left : EntryParts
+  entry_part : Tree → Tree → EntryParts → EntryParts
+  optional_part : List ℕ → Tree → Tree → EntryParts → EntryParts
+
+-- these, or the first fault
 pub data Pairs : Type 0 where
-  pairs : TreeEntries → Pairs
+  pairs : EntryParts → Pairs
   no_pairs : WideFault → Pairs
 
+-- the entries with one more at the end
+abbrev pub entries_push : TreeEntries → Tree → Tree → TreeEntries
+entries_push no_entries k v = more_entries k v no_entries
+entries_push (more_entries l w more) k v = more_entries l w (entries_push more k v)
+
+-- the map with these entries before the others: with an optional one if its guard is true, and without it if not
+abbrev pub map_tree : TreeEntries → EntryParts → Tree
+map_tree before no_parts_left = tree.map before
+map_tree before (entry_part k v more) = map_tree (entries_push before k v) more
+map_tree before (optional_part f g v more) =
+    tree.ternary g (map_tree (entries_push before (tree.literal (tree.text f)) v) more) (map_tree before more)
+
+-- the number of optional entries
+abbrev pub optional_count : EntryParts → ℕ
+optional_count no_parts_left = 0
+optional_count (entry_part k v more) = optional_count more
+optional_count (optional_part f g v more) = suc (optional_count more)
+
+-- one more optional entry before the others
+abbrev pub optional_more : List ℕ → Carried → Pairs → Pairs
+optional_more f (guarded k g v) (pairs ps) = pairs (optional_part f g v ps)
+optional_more f (guarded k g v) (no_pairs e) = no_pairs e
+optional_more f (listed k l) (pairs ps) = pairs (optional_part f (tree.binary NotEqual l empty_tree) (first_tree l) ps)
+optional_more f (listed k l) (no_pairs e) = no_pairs e
+optional_more f (plain k t) ps = no_pairs OptionalValue
+
+-- one whose key has this tree
+abbrev pub keyed_more : Tree → Carried → Pairs → Pairs
+keyed_more (tree.literal (tree.text f)) c ps = optional_more f c ps
+keyed_more t c ps = no_pairs OptionalEntry
+
 abbrev pub entry_more : Access → Translation → Translation → Pairs → Pairs
-entry_more Plain (taken (plain k t)) (taken (plain j u)) (pairs es) = pairs (more_entries t u es)
+entry_more Plain (taken (plain k t)) (taken (plain j u)) (pairs es) = pairs (entry_part t u es)
 entry_more Plain (taken (plain k t)) (taken (plain j u)) (no_pairs e) = no_pairs e
 entry_more Plain (taken (plain k t)) (refused e) es = no_pairs e
 entry_more Plain (taken (plain k t)) (taken _) es = no_pairs OptionalValue
 entry_more Plain (refused e) u es = no_pairs e
 entry_more Plain (taken _) u es = no_pairs OptionalValue
-entry_more Optional t u es = no_pairs Unsupported
+entry_more Optional (taken (plain k t)) (taken c) es = keyed_more t c es
+entry_more Optional (taken (plain k t)) (refused e) es = no_pairs e
+entry_more Optional (refused e) u es = no_pairs e
+entry_more Optional (taken _) u es = no_pairs OptionalValue
 
 abbrev pub list_translation : Parts → Translation
 list_translation (parts ts u) = taken (plain kind.List (joined_tree ts u))
 list_translation (no_parts e) = refused e
 
 abbrev pub map_translation : Pairs → Translation
-map_translation (pairs es) = taken (plain kind.Map (tree.map es))
+map_translation (pairs es) = if nat_le (optional_count es) 3 then taken (plain kind.Map (map_tree no_entries es)) else refused OptionalEntry
 map_translation (no_pairs e) = refused e

@@ -1,6 +1,6 @@
 -- The environment in which a policy's translations are evaluated.
 use Rattle.std.specs.Prelude.{ℕ, Bool, true, false, List, [], ◌∷◌, ◌++◌, fold, map as each, codes, ⊤}
-use Rattle.value_store.specs.Value.{Value, ValueOrError, map, entry, no_entries}
+use Rattle.value_store.specs.Value.{Value, ValueOrError, map, entry, no_entries, null}
 use Rattle.cel_reader.specs.Tree.{Tree}
 use Rattle.cel_macros.specs.Environment.{Environment, Roots}
 use Rattle.cel_macros.specs.Meaning.{meaning}
@@ -9,7 +9,7 @@ use Rattle.wide_meaning.specs.Environment.{WideEnvironment}
 use Rattle.wide_meaning.specs.Meaning.{wide_meaning}
 use Rattle.wide_meaning.specs.Outcome.{Outcome}
 use Rattle.wide_kinds.specs.declared.kind.Kind.{Kind}
-use Rattle.wide_translation.specs.Scope.{scope_of}
+use Rattle.wide_translation.specs.Scope.{scope_of, condition_scope}
 use Rattle.wide_translation.specs.Names.{params_field}
 use Rattle.wide_translation.specs.Results.{WideMeans, IsCarried}
 
@@ -21,6 +21,11 @@ with_tables ts p = map (entry (codes "t") ts (entry params_field p no_entries))
 abbrev pub placed : Bool → Value → Roots → Roots
 placed true ts roots = record roots { params = with_tables ts roots.params }
 placed false ts roots = roots
+
+-- the roots of match conditions: API servers evaluate them without a namespace (apiserver,
+-- webhook/matchconditions/matcher.go, Match)
+abbrev pub condition_roots : Roots → Roots
+condition_roots roots = record roots { namespace_object = null }
 
 -- environments outside of macros
 abbrev pub wide_environment : Roots → List (List ℕ × Outcome) → WideEnvironment
@@ -64,3 +69,12 @@ PolicyMeansTheSame =
     → AreTranslated wrapped [] vs → WideMeans (scope_of wrapped (each kind_of vs)) e k a
     → IsCarried k a (wide_meaning others e (wide_environment roots (fold (with_outcome others roots) [] vs)))
     (environment (placed wrapped ts roots) (fold (with_value (placed wrapped ts roots)) [] vs))
+
+-- A translation of a match condition carries what the wide expression means without a namespace, whatever tables the
+-- root `params` has.
+abbrev pub ConditionMeansTheSame : Type 0
+ConditionMeansTheSame =
+    (others : Wide → WideEnvironment → Outcome) (wrapped : Bool) (ts : Value) (roots : Roots) (e : Wide) (k : Kind) (a : Tree)
+    → WideMeans (condition_scope wrapped) e k a
+    → IsCarried k a (wide_meaning others e (wide_environment (condition_roots roots) []))
+    (environment (placed wrapped ts roots) [])

@@ -1,43 +1,19 @@
 -- Translations worked out by hand.
-use Rattle.std.specs.Prelude.{◌≡◌, false, [], ◌∷◌, codes}
-use Prim.Native.String.{String}
-use Rattle.cel_reader.specs.Tree.{Tree, binary, ternary, index}
+use Rattle.std.specs.Prelude.{[], ◌∷◌, codes}
+use Rattle.cel_reader.specs.Tree.{binary, ternary, index}
 use Rattle.cel_reader.specs.Written as plain
-use Rattle.cel_reader.specs.declared.operator.BinaryOperator.TheVariants.{And, Add, Equal, NotEqual, Less, LessEqual, In}
-use Rattle.wide_reader.specs.Tree.{Wide}
+use Rattle.cel_reader.specs.declared.operator.BinaryOperator.TheVariants.{And, Add, Equal, NotEqual, Less, LessEqual}
+use Rattle.cel_reader.specs.declared.operator.BinaryOperator.TheVariants.{In}
 use Rattle.wide_reader.specs.Tree as wide
 use Rattle.wide_reader.specs.declared.wide.Macro.TheVariants as macro
 use Rattle.wide_reader.specs.declared.wide.PairMacro.TheVariants as pair
-use Rattle.wide_kinds.specs.declared.kind.ValueKind.{ValueKind}
 use Rattle.wide_kinds.specs.declared.kind.ValueKind.TheVariants as kind
-use Rattle.wide_meaning.specs.Written.{num, str, name, dot, maybe, maybe_item, has, call, or_value, list_literal, object_spec}
-use Rattle.wide_translation.specs.Carried as carried
-use Rattle.wide_translation.specs.Carried.{WideFault, UnknownName, OptionalValue, TakenName, UnsignedInt, Unsupported, taken, refused}
-use Rattle.wide_translation.specs.Scope.{scope_of}
-use Rattle.wide_translation.specs.Translated.{translated}
-
--- without variables, the expression is translated to this tree of a value of this kind
-abbrev pub Becomes : Wide → ValueKind → Tree → Type 0
-Becomes e k a = translated (scope_of false []) e ≡ taken (carried.plain k a)
-
--- without variables, the expression is refused
-abbrev pub WideIsRefused : Wide → WideFault → Type 0
-WideIsRefused e f = translated (scope_of false []) e ≡ refused f
-
--- object.spec and one of its fields, in the compiled language
-abbrev pub plain_spec : Tree
-plain_spec = plain.dot (plain.name "object") "spec"
-
-abbrev pub plain_field : String → Tree
-plain_field f = plain.dot plain_spec f
-
--- object.spec != null && has(object.spec.f)
-abbrev pub is_there : String → Tree
-is_there f = binary And (binary NotEqual plain_spec plain.nothing) (plain.call "has" (plain_field f ∷ []))
-
--- the list of that field, or []
-abbrev pub field_or_nothing : String → Tree
-field_or_nothing f = ternary (is_there f) (plain.list_literal (plain_field f ∷ [])) (plain.list_literal [])
+use Rattle.wide_meaning.specs.Written.{num, str, yes, name, dot, maybe, maybe_item, has, call, method, or_value, list_literal}
+use Rattle.wide_meaning.specs.Written.{object_spec}
+use Rattle.wide_translation.specs.Carried.{UnknownName, OptionalValue, TakenName, UnsignedInt, Unsupported}
+use Rattle.wide_translation.specs.FormRows.{FormRowsHold}
+use Rattle.wide_translation.specs.Written.{Becomes, BecomesInCondition, BecomesWithVariables, WideIsRefused, plain_spec, plain_field, is_there}
+use Rattle.wide_translation.specs.Written.{field_or_nothing}
 
 pub record TranslationRowsHold : Type 0 where
   -- object.spec.?replicas.orValue(1) <= 5
@@ -80,4 +56,16 @@ pub record TranslationRowsHold : Type 0 where
   -- object.all(object, true)
   pub taken_name : WideIsRefused (wide.fold macro.All (name "object") (codes "object") (num 1)) (TakenName (codes "object"))
   -- object.all(k, v, true)
-  pub two_names : WideIsRefused (wide.pair_fold pair.All (name "object") (codes "k") (codes "v") (num 1)) Unsupported
+  pub two_names : WideIsRefused (wide.pair_fold pair.All (name "object") (codes "k") (codes "v") yes) Unsupported
+  -- namespaceObject and .namespaceObject in a match condition, and namespaceObject elsewhere
+  pub no_namespace : BecomesInCondition (name "namespaceObject") kind.Dyn (plain.call "dyn" (plain.nothing ∷ []))
+  pub no_root : BecomesInCondition (wide.root (codes "namespaceObject")) kind.Dyn (plain.call "dyn" (plain.nothing ∷ []))
+  pub namespace : Becomes (name "namespaceObject") kind.Dyn (plain.name "namespaceObject")
+  -- has(variables.m.f), and variables.l[?2].hasValue()
+  pub known_map : BecomesWithVariables (has (dot (name "variables") "m") "f") kind.Bool
+      (plain.call "has" (plain.dot (plain.dot (plain.name "variables") "m") "f" ∷ []))
+  pub known_list : BecomesWithVariables (method (maybe_item (dot (name "variables") "l") (num 2)) "hasValue" []) kind.Bool
+      (binary Less (plain.num 2)
+      (plain.call "size" (binary Add (plain.dot (plain.name "variables") "l") (plain.list_literal []) ∷ [])))
+  -- lists and optional entries
+  pub forms : FormRowsHold

@@ -1,14 +1,15 @@
 -- The names that an expression may use, with their kinds.
-use Rattle.std.specs.Prelude.{ℕ, Bool, List, [], ◌∷◌, is_some}
+use Rattle.std.specs.Prelude.{ℕ, Bool, true, false, List, [], ◌∷◌, is_some}
 use Rattle.cel_macros.specs.Environment.{lookup}
 use Rattle.cel_macros.specs.Macros.{variables_name}
 use Rattle.wide_kinds.specs.declared.kind.Kind.{Kind}
 use Rattle.wide_kinds.specs.declared.kind.ValueKind.{ValueKind}
 
--- whether the root `params` has tables beside the parameters, the variables in scope, and the iteration names in
--- scope, innermost first
+-- whether the root `params` has tables beside the parameters, whether the expression is a match condition, in which
+-- `namespaceObject` is null, the variables in scope, and the iteration names in scope, innermost first
 pub record WideScope : Type 0 where
   pub wrapped : Bool
+  pub condition : Bool
   pub variables : List (List ℕ × Kind)
   pub names : List (List ℕ × ValueKind)
 
@@ -22,4 +23,8 @@ is_hidden s = is_some (lookup variables_name s.names)
 
 -- the scope outside of macros
 abbrev pub scope_of : Bool → List (List ℕ × Kind) → WideScope
-scope_of wrapped variables = record { wrapped = wrapped; variables = variables; names = [] }
+scope_of wrapped variables = record { wrapped = wrapped; condition = false; variables = variables; names = [] }
+
+-- the scope of a match condition outside of macros: it may use no variable
+abbrev pub condition_scope : Bool → WideScope
+condition_scope wrapped = record { wrapped = wrapped; condition = true; variables = []; names = [] }

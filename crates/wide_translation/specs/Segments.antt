@@ -10,7 +10,9 @@ use Rattle.wide_reader.specs.declared.wide.Access.{TheVariants.Plain}
 use Rattle.wide_kinds.specs.declared.kind.ValueKind.TheVariants as kind
 use Rattle.wide_translation.specs.declared.lists.ListParts.{ListParts}
 use Rattle.wide_translation.specs.Carried.{plain, listed, taken}
-use Rattle.wide_translation.specs.Parts.{Parts, one_more, list_more, Pairs, entry_more}
+use Rattle.wide_translation.specs.Parts.{Parts, one_more, list_more, Pairs}
+use Rattle.wide_translation.specs.Declarations.{with_part}
+use Rattle.wide_translation.specs.declared.entry_part.EntryPart.{EntryPart}
 
 -- items before an optional value, and its list, as plain data
 abbrev pub segment_view : Vec Expr Global × Expr → List Tree × Tree
@@ -44,6 +46,6 @@ abbrev pub joined_parts : ListParts → Tree
 joined_parts p = joined (map segment_view p.segments.items) (tree.list (trees (map view p.last.items)))
 
 -- entries before others
-abbrev pub entries_more : List (Tree × Tree) → Pairs → Pairs
+abbrev pub entries_more : List EntryPart → Pairs → Pairs
 entries_more [] ps = ps
-entries_more (e ∷ more) ps = entry_more Plain (taken (plain kind.Dyn e.0)) (taken (plain kind.Dyn e.1)) (entries_more more ps)
+entries_more (p ∷ more) ps = with_part p (entries_more more ps)

@@ -1,5 +1,6 @@
 -- The translation of a wide expression.
-use Rattle.std.specs.Prelude.{ℕ, pos, nat_lt, Bool, true, false, List, [], ◌∷◌, Option, Some, None, codes, if◌then◌else◌}
+use Rattle.std.specs.Prelude.{ℕ, pos, nat_lt, Bool, true, false, List, [], ◌∷◌, Option, Some, None, codes}
+use Rattle.std.specs.Prelude.{if◌then◌else◌}
 use Rattle.cel_reader.specs.Tree as tree
 use Rattle.cel_reader.specs.Tree.{Tree, no_trees, more_trees, no_entries, more_entries}
 use Rattle.cel_reader.specs.declared.operator.BinaryOperator.{BinaryOperator, TheVariants.And, TheVariants.Equal}
@@ -10,7 +11,8 @@ use Rattle.cel_macros.specs.Environment.{lookup, is_root}
 use Rattle.cel_macros.specs.Functions.{function_name, test_name}
 use Rattle.cel_macros.specs.declared.function.Function.TheVariants as plain_function
 use Rattle.cel_macros.specs.declared.macros.Macro.TheVariants as plain_macro
-use Rattle.cel_macros.specs.declared.text_test.TextTest.{TextTest, TheVariants.StartsWith, TheVariants.EndsWith, TheVariants.Contains}
+use Rattle.cel_macros.specs.declared.text_test.TextTest.{TextTest, TheVariants.StartsWith, TheVariants.EndsWith}
+use Rattle.cel_macros.specs.declared.text_test.TextTest.{TheVariants.Contains}
 use Rattle.wide_reader.specs.Tree.{Wide, Wides, WideItems, WideEntries}
 use Rattle.wide_reader.specs.Tree as wide
 use Rattle.wide_reader.specs.declared.wide.Access.{Access, TheVariants.Plain, TheVariants.Optional}
@@ -35,21 +37,25 @@ use Rattle.wide_kinds.specs.Kinds.{literal_kind, unary_kind, binary_kind, joined
 use Rattle.wide_translation.specs.Carried.{Carried, plain, guarded, listed, UnknownName, OptionalValue, TakenName}
 use Rattle.wide_translation.specs.Carried.{UnsignedInt, Unsupported, Translation, taken, refused}
 use Rattle.wide_translation.specs.Forms.{empty_tree, one_tree, call_tree, macro_tree, filter_map_tree, first_tree}
-use Rattle.wide_translation.specs.Forms.{let_tree, held, access_tree, present_tree, field_list_tree, guarded_tree}
-use Rattle.wide_translation.specs.Forms.{flat_tree, present_item_tree, item_tree, item_list_tree, is_empty_tree}
-use Rattle.wide_translation.specs.Forms.{text_tree, non_zero_tree, bool_tree, text_bool_tree, root_tree, variable_tree}
-use Rattle.wide_translation.specs.Forms.{is_simple}
-pub use Rattle.wide_translation.specs.Parts.{with_carried, on_plain, with_plain, as_list, from_list, on_list, IsFinished, once}
-pub use Rattle.wide_translation.specs.Parts.{Parts, parts, no_parts, joined_tree, list_more, one_more, list_translation}
-pub use Rattle.wide_translation.specs.Parts.{Pairs, pairs, no_pairs, entry_more, map_translation}
+use Rattle.wide_translation.specs.Forms.{let_tree, held, access_tree, has_any_tree, present_tree, field_list_tree, guarded_tree}
+use Rattle.wide_translation.specs.Forms.{flat_tree, is_below_tree, present_item_tree, item_tree, item_list_tree, is_empty_tree}
+use Rattle.wide_translation.specs.Forms.{text_tree, non_zero_tree, bool_tree, text_bool_tree, root_tree}
+use Rattle.wide_translation.specs.Forms.{variable_tree, is_simple}
+pub use Rattle.wide_translation.specs.Parts.{with_carried, on_plain, with_plain, as_list, from_list, on_list}
+pub use Rattle.wide_translation.specs.Parts.{IsFinished, once, Parts, parts, no_parts, joined_tree, list_more}
+pub use Rattle.wide_translation.specs.Parts.{one_more, EntryParts, no_parts_left, entry_part, optional_part, Pairs}
+pub use Rattle.wide_translation.specs.Parts.{pairs, no_pairs, entries_push, map_tree, optional_count, optional_more}
+pub use Rattle.wide_translation.specs.Parts.{keyed_more, entry_more, list_translation, map_translation}
+use Rattle.wide_translation.specs.Lists.{second, first_list_tree, last_list_tree, extreme_tree, contained_tree}
+use Rattle.wide_translation.specs.Lists.{meeting_tree, equivalent_tree, sets_translation}
 use Rattle.wide_translation.specs.Names.{held_name, is_taken}
 use Rattle.wide_translation.specs.Scope.{WideScope, within, is_hidden}
 
 -- ---- names
 
 -- the root of a name
-abbrev pub root_translation : Bool → List ℕ → Translation
-root_translation wrapped n = if is_root n then taken (plain kind.Dyn (root_tree wrapped n)) else refused (UnknownName n)
+abbrev pub root_translation : WideScope → List ℕ → Translation
+root_translation s n = if is_root n then taken (plain kind.Dyn (root_tree s n)) else refused (UnknownName n)
 
 -- an iteration name if it is in scope, else what the name denotes outside of macros
 abbrev pub name_translation : Option ValueKind → List ℕ → Translation → Translation
@@ -64,10 +70,15 @@ variable_translation None f = refused (UnknownName f)
 
 -- ---- fields
 
+-- whether a value of this kind has a field: a map is not compared with null, which has no type
+abbrev pub present_of : ValueKind → Tree → List ℕ → Tree
+present_of kind.Map t f = has_any_tree t f
+present_of _ t f = present_tree t f
+
 -- the field of a value as an optional value: written twice if the operand is simple
-abbrev pub optional_field : Bool → Tree → List ℕ → Carried
-optional_field true t f = guarded kind.Dyn (present_tree t f) (access_tree t f)
-optional_field false t f = listed kind.Dyn (let_tree held_name t (field_list_tree held f))
+abbrev pub optional_field : Bool → ValueKind → Tree → List ℕ → Carried
+optional_field true k t f = guarded kind.Dyn (present_of k t f) (access_tree t f)
+optional_field false k t f = listed kind.Dyn (let_tree held_name t (field_list_tree held f))
 
 -- the field of the value of an optional value
 abbrev pub field_of_list : Tree → List ℕ → Carried
@@ -80,16 +91,21 @@ field_of_guarded false g v f = field_of_list (guarded_tree g v) f
 -- `.f` or `.?f`
 abbrev pub field_carried : Access → List ℕ → Carried → Carried
 field_carried Plain f (plain k t) = plain kind.Dyn (access_tree t f)
-field_carried Optional f (plain k t) = optional_field (is_simple t) t f
+field_carried Optional f (plain k t) = optional_field (is_simple t) k t f
 field_carried o f (guarded k g v) = field_of_guarded (is_simple v) g v f
 field_carried o f (listed k l) = field_of_list l f
 
 -- ---- items
 
+-- whether a value of this kind has an item n: a list is not compared with null, which has no type
+abbrev pub present_item_of : ValueKind → Tree → ℕ → Tree
+present_item_of kind.List t n = is_below_tree t n
+present_item_of _ t n = present_item_tree t n
+
 -- the item n of a value as an optional value: written twice if the operand is simple
-abbrev pub optional_item : Bool → Tree → ℕ → Carried
-optional_item true t n = guarded kind.Dyn (present_item_tree t n) (item_tree t n)
-optional_item false t n = listed kind.Dyn (let_tree held_name t (item_list_tree held n))
+abbrev pub optional_item : Bool → ValueKind → Tree → ℕ → Carried
+optional_item true k t n = guarded kind.Dyn (present_item_of k t n) (item_tree t n)
+optional_item false k t n = listed kind.Dyn (let_tree held_name t (item_list_tree held n))
 
 -- the item n of the value of an optional value
 abbrev pub item_of_list : Tree → ℕ → Carried
@@ -97,7 +113,7 @@ item_of_list l n = listed kind.Dyn (flat_tree held_name l (item_list_tree held n
 
 -- `[?n]` of an operand
 abbrev pub item_carried : ℕ → Carried → Carried
-item_carried n (plain k t) = optional_item (is_simple t) t n
+item_carried n (plain k t) = optional_item (is_simple t) k t n
 item_carried n (guarded k g v) = item_of_list (guarded_tree g v) n
 item_carried n (listed k l) = item_of_list l n
 
@@ -111,7 +127,7 @@ has_value_carried (listed k l) = tree.binary NotEqual l empty_tree
 
 -- `has(e.f)`
 abbrev pub has_carried : List ℕ → Carried → Tree
-has_carried f (plain k t) = once t (λ a. present_tree a f)
+has_carried f (plain k t) = if is_simple t then present_of k t f else let_tree held_name t (present_tree held f)
 has_carried f c = has_value_carried (field_carried Optional f c)
 
 -- ---- operators
@@ -183,11 +199,14 @@ or_carried (guarded k g v) d = on_list OptionalValue d (λ j m. taken (listed (j
 or_carried (listed k l) d =
     on_list OptionalValue d (λ j m. taken (listed (joined_kind k j) (let_tree held_name l (tree.ternary (is_empty_tree held) m held))))
 
--- a function with a namespace; those of sets are not translated
+-- a function with a namespace
 abbrev pub qualified_translation : Qualified → List ℕ → List Translation → Translation
 qualified_translation qualified.OptionalOf n (t ∷ []) = with_plain t (λ k a. taken (listed k (one_tree a)))
 qualified_translation qualified.OptionalNone n [] = taken (listed kind.Dyn empty_tree)
 qualified_translation qualified.OptionalOfNonZeroValue n (t ∷ []) = with_plain t (λ k a. taken (listed k (once a non_zero_tree)))
+qualified_translation qualified.SetsContains n (t ∷ u ∷ []) = sets_translation (contained_tree second held) t u
+qualified_translation qualified.SetsIntersects n (t ∷ u ∷ []) = sets_translation (meeting_tree held second) t u
+qualified_translation qualified.SetsEquivalent n (t ∷ u ∷ []) = sets_translation (equivalent_tree held second) t u
 qualified_translation _ n ts = refused (UnknownName n)
 
 -- a macro over an optional value as a list
@@ -231,6 +250,10 @@ method_carried method.HasValue c [] = has_value_translation c
 method_carried method.Value c [] = value_carried c
 method_carried method.OrValue c (d ∷ []) = with_plain d (or_value_carried c)
 method_carried method.Or c (d ∷ []) = with_carried d (or_carried c)
+method_carried method.First c [] = on_plain c (λ k a. taken (listed kind.Dyn (first_list_tree a)))
+method_carried method.Last c [] = on_plain c (λ k a. taken (listed kind.Dyn (last_list_tree a)))
+method_carried method.Min c [] = on_plain c (λ k a. taken (plain kind.Dyn (extreme_tree LessEqual a)))
+method_carried method.Max c [] = on_plain c (λ k a. taken (plain kind.Dyn (extreme_tree GreaterEqual a)))
 method_carried m c ds = refused (UnknownName (method_name m))
 
 -- a function with a namespace, or a method
@@ -300,8 +323,8 @@ unfoldable mutual
   pub translated : WideScope → Wide → Translation
   translated s (wide.literal l) = taken (plain (literal_kind l) (tree.literal l))
   translated s (wide.uint n) = refused UnsignedInt
-  translated s (wide.name n) = name_translation (lookup n s.names) n (root_translation s.wrapped n)
-  translated s (wide.root n) = root_translation s.wrapped n
+  translated s (wide.name n) = name_translation (lookup n s.names) n (root_translation s n)
+  translated s (wide.root n) = root_translation s n
   translated s (wide.select a o f) = selected_translation (denotes_variables a (is_hidden s)) o f s (translated s a)
   translated s (wide.index a o k) =
       with_carried (translated s a) (λ c. with_carried (translated s k) (λ d. index_carried (text_literal k) (count_literal k) o c d))
@@ -344,5 +367,5 @@ unfoldable mutual
 
   -- the trees of the entries of a map literal
   pub entries_translated : WideScope → WideEntries → Pairs
-  entries_translated s wide.no_entries = pairs no_entries
+  entries_translated s wide.no_entries = pairs no_parts_left
   entries_translated s (wide.more_entries o k v more) = entry_more o (translated s k) (translated s v) (entries_translated s more)

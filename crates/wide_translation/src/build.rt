@@ -4,10 +4,13 @@ ghost use Rattle.std.specs.Prelude.{◌≡◌, [], ◌∷◌, ◌++◌, IfOk, st
 ghost use Rattle.std.specs.Prelude as list;
 ghost use Rattle.cel_reader.specs.Tree as node;
 ghost use Rattle.cel_reader.specs.Tree.{view, trees, entries, entry_view};
+ghost use Rattle.wide_translation.specs.Declarations.{scope_in};
 ghost use Rattle.wide_translation.specs.Forms as forms;
 ghost use Rattle.wide_translation.specs.Names as names;
 
-use crate::names::{HELD, PARAMS, PARAMS_FIELD, VARIABLES};
+use crate::names::{
+    HELD, NAMESPACE, Names, PARAMS, PARAMS_FIELD, VARIABLES, is_condition, is_wrapped,
+};
 use cel_macros::Macro;
 use cel_reader::{BinaryOperator, Expr, Literal, UnaryOperator};
 use std::alloc::{AllocError, Global};
@@ -48,9 +51,26 @@ pub(crate) fn select(alloc: Global, of: Expr, field: &str) -> Result<Expr, Alloc
     Ok(Expr::Select(boxed(alloc, of)?, copy))
 }
 
+/// A root in the scope of these names; in match conditions `namespaceObject` is null.
+pub(crate) fn root(alloc: Global, given: &str, names: &Names) -> Result<Expr, AllocError>
+    ensures { IfOk result (λ e. view e ≡ forms.root_tree (scope_in names.now) given.now) }
+{
+    if is_condition(names) && NAMESPACE == given {
+        return null(alloc);
+    }
+    placed(alloc, given, is_wrapped(names))
+}
+
+/// Null, of a type that is not known.
+fn null(alloc: Global) -> Result<Expr, AllocError>
+    ensures { IfOk result (λ e. view e ≡ forms.null_tree) }
+{
+    call(alloc, "dyn", Expr::Literal(Literal::Null))
+}
+
 /// A root; `params` is a field of its root if that has tables too.
-pub(crate) fn root(alloc: Global, given: &str, wrapped: bool) -> Result<Expr, AllocError>
-    ensures { IfOk result (λ e. view e ≡ forms.root_tree wrapped given.now) }
+fn placed(alloc: Global, given: &str, wrapped: bool) -> Result<Expr, AllocError>
+    ensures { IfOk result (λ e. view e ≡ forms.placed_tree wrapped given.now) }
 {
     if wrapped && PARAMS == given {
         let of = name(alloc, PARAMS)?;
@@ -289,13 +309,20 @@ pub(crate) fn filter_map(
     method_of(alloc, range, "map", arguments)
 }
 
+/// An expression with a name for the value of another.
+pub(crate) fn bound_to(alloc: Global, name: &str, of: Expr, body: Expr) -> Result<Expr, AllocError>
+    ensures { IfOk result (λ e. view e ≡ forms.let_tree name.now (view of) (view body)) }
+{
+    let items = one(alloc, of)?;
+    let mapped = fold(alloc, Macro::Map, name, items, body)?;
+    first(alloc, mapped)
+}
+
 /// An expression with the name that the translation binds for the value of another.
 pub(crate) fn bound(alloc: Global, of: Expr, body: Expr) -> Result<Expr, AllocError>
     ensures { IfOk result (λ e. view e ≡ forms.let_tree names.held_name (view of) (view body)) }
 {
-    let items = one(alloc, of)?;
-    let mapped = fold(alloc, Macro::Map, HELD, items, body)?;
-    first(alloc, mapped)
+    bound_to(alloc, HELD, of, body)
 }
 
 /// The list of an expression if a guard holds, else the empty list.

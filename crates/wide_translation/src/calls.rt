@@ -15,7 +15,7 @@ ghost use Rattle.cel_reader.specs.Tree as node;
 
 use crate::carried::{Carried, list_of, value_of};
 use crate::translation_error::TranslationError;
-use crate::{build, conversions};
+use crate::{build, conversions, list_functions};
 use cel_macros::TextTest;
 use cel_reader::{BinaryOperator, Expr};
 use std::alloc::{AllocError, Global};
@@ -57,6 +57,8 @@ fn method_name(method: Method) -> &'static str
         Method::Or => "or",
         Method::First => "first",
         Method::Last => "last",
+        Method::Min => "min",
+        Method::Max => "max",
     }
 }
 
@@ -367,6 +369,10 @@ pub(crate) fn method(alloc: Global, found: Method, of: Carried) -> Result<Carrie
         Method::Size => size(alloc, of),
         Method::HasValue => has_value(alloc, of),
         Method::Value => value(alloc, of),
+        Method::First => list_functions::first(alloc, of),
+        Method::Last => list_functions::last(alloc, of),
+        Method::Min => list_functions::extreme(alloc, BinaryOperator::LessEqual, of),
+        Method::Max => list_functions::extreme(alloc, BinaryOperator::GreaterEqual, of),
         _ => Err(unknown_method(alloc, found)),
     }
 }

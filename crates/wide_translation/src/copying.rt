@@ -39,7 +39,10 @@ fn copies(alloc: Global, items: &[Expr]) -> Result<Vec<Expr>, AllocError>
 
 /// Copies of keys and values.
 #[cycle(copying)]
-fn entry_copies(alloc: Global, pairs: &[(Expr, Expr)]) -> Result<Vec<(Expr, Expr)>, AllocError>
+pub(crate) fn entry_copies(
+    alloc: Global,
+    pairs: &[(Expr, Expr)],
+) -> Result<Vec<(Expr, Expr)>, AllocError>
     ensures { IfOk result (λ v. list.map entry_view v.items ≡ list.map entry_view pairs.now) }
 {
     let mut out = Vec::new(alloc);

@@ -4,7 +4,7 @@ ghost use Rattle.std.specs.Prelude.{◌≡◌, IfOk};
 ghost use Rattle.cel_reader.specs.Tree as node;
 ghost use Rattle.cel_reader.specs.Tree.{view};
 ghost use Rattle.cel_reader.specs.declared.operator.BinaryOperator.TheVariants as operation;
-ghost use Rattle.wide_kinds.specs.declared.kind.ValueKind.TheVariants as kind;
+ghost use Rattle.wide_kinds.specs.declared.kind.ValueKind.TheVariants as kinds;
 ghost use Rattle.wide_translation.specs.Carried.{plain, taken};
 ghost use Rattle.wide_translation.specs.Declarations.{ReturnsCarried, carried_view};
 ghost use Rattle.wide_translation.specs.Forms as forms;
@@ -20,11 +20,16 @@ use wide_kinds::ValueKind;
 use wide_reader::Access;
 
 /// The optional field of a value.
-fn optional_field(alloc: Global, of: Expr, field: &str) -> Result<Carried, AllocError>
-    ensures { IfOk result (λ c. carried_view c ≡ specs.optional_field (forms.is_simple (view of)) (view of) field.now) }
+fn optional_field(
+    alloc: Global,
+    kind: ValueKind,
+    of: Expr,
+    field: &str,
+) -> Result<Carried, AllocError>
+    ensures { IfOk result (λ c. carried_view c ≡ specs.optional_field (forms.is_simple (view of)) kind (view of) field.now) }
 {
     if build::is_simple(&of) {
-        let guard = presence::present(alloc, &of, field)?;
+        let guard = presence::present_of(alloc, kind, &of, field)?;
         let value = presence::access(alloc, of, field)?;
         return Ok(Carried::Guarded(ValueKind::Dyn, guard, value));
     }
@@ -78,12 +83,12 @@ pub(crate) fn field(
     ensures { IfOk result (λ c. carried_view c ≡ specs.field_carried access name.now (carried_view of)) }
 {
     match of {
-        Carried::Plain(_, tree) => match access {
+        Carried::Plain(kind, tree) => match access {
             Access::Plain => {
                 let inner = presence::access(alloc, tree, name)?;
                 Ok(Carried::Plain(ValueKind::Dyn, inner))
             }
-            Access::Optional => optional_field(alloc, tree, name),
+            Access::Optional => optional_field(alloc, kind, tree, name),
         },
         Carried::Guarded(_, guard, value) => field_of_guarded(alloc, guard, value, name),
         Carried::Listed(_, list) => field_of_list(alloc, list, name),
@@ -112,11 +117,11 @@ fn held_has(alloc: Global, field: &str) -> Result<Expr, AllocError>
 }
 
 /// Whether a value has a field.
-fn has_plain(alloc: Global, of: Expr, field: &str) -> Result<Expr, AllocError>
-    ensures { IfOk result (λ e. view e ≡ specs.once (view of) (λ a. forms.present_tree a field.now)) }
+fn has_plain(alloc: Global, kind: ValueKind, of: Expr, field: &str) -> Result<Expr, AllocError>
+    ensures { IfOk result (λ e. view e ≡ specs.has_carried field.now (plain kind (view of))) }
 {
     if build::is_simple(&of) {
-        return presence::present(alloc, &of, field);
+        return presence::present_of(alloc, kind, &of, field);
     }
     let body = held_has(alloc, field)?;
     build::bound(alloc, of, body)
@@ -127,7 +132,7 @@ pub(crate) fn has(alloc: Global, name: &str, of: Carried) -> Result<Expr, AllocE
     ensures { IfOk result (λ e. view e ≡ specs.has_carried name.now (carried_view of)) }
 {
     match of {
-        Carried::Plain(_, tree) => has_plain(alloc, tree, name),
+        Carried::Plain(kind, tree) => has_plain(alloc, kind, tree, name),
         Carried::Guarded(_, guard, value) => {
             let inner = field_of_guarded(alloc, guard, value, name)?;
             has_value(alloc, inner)
@@ -141,7 +146,7 @@ pub(crate) fn has(alloc: Global, name: &str, of: Carried) -> Result<Expr, AllocE
 
 /// Whether an operand has a field, as a value.
 pub(crate) fn tested(alloc: Global, name: &str, of: Carried) -> Result<Carried, TranslationError>
-    ensures { ReturnsCarried (taken (plain kind.Bool (specs.has_carried name.now (carried_view of)))) result }
+    ensures { ReturnsCarried (taken (plain kinds.Bool (specs.has_carried name.now (carried_view of)))) result }
 {
     let tree = has(alloc, name, of)?;
     Ok(Carried::Plain(ValueKind::Bool, tree))

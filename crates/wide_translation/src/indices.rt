@@ -71,11 +71,16 @@ fn text_index(
 }
 
 /// The optional item of a value.
-fn optional_item(alloc: Global, of: Expr, position: i64) -> Result<Carried, AllocError>
-    ensures { IfOk result (λ c. (n : ℕ) → position ≡ pos n → carried_view c ≡ specs.optional_item (forms.is_simple (view of)) (view of) n) }
+fn optional_item(
+    alloc: Global,
+    kind: ValueKind,
+    of: Expr,
+    position: i64,
+) -> Result<Carried, AllocError>
+    ensures { IfOk result (λ c. (n : ℕ) → position ≡ pos n → carried_view c ≡ specs.optional_item (forms.is_simple (view of)) kind (view of) n) }
 {
     if build::is_simple(&of) {
-        let guard = presence::present_item(alloc, &of, position)?;
+        let guard = presence::present_item_of(alloc, kind, &of, position)?;
         let value = presence::item(alloc, of, position)?;
         return Ok(Carried::Guarded(ValueKind::Dyn, guard, value));
     }
@@ -98,7 +103,7 @@ fn item(alloc: Global, of: Carried, position: i64) -> Result<Carried, AllocError
     ensures { IfOk result (λ c. (n : ℕ) → position ≡ pos n → carried_view c ≡ specs.item_carried n (carried_view of)) }
 {
     match of {
-        Carried::Plain(_, tree) => optional_item(alloc, tree, position),
+        Carried::Plain(kind, tree) => optional_item(alloc, kind, tree, position),
         Carried::Guarded(_, guard, value) => {
             let list = build::guarded(alloc, guard, value)?;
             item_of_list(alloc, list, position)

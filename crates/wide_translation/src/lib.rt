@@ -6,9 +6,12 @@ mod calls;
 mod carried;
 mod conversions;
 mod copying;
+mod entries;
+mod entry_part;
 mod fields;
 mod indices;
 mod laws;
+mod list_functions;
 mod lists;
 mod names;
 mod naming;
@@ -20,8 +23,9 @@ mod translated;
 mod translating;
 mod translation_error;
 
-pub use laws::{policy_means_the_same, rows_stand, translation_means_the_same};
+pub use laws::{
+    condition_means_the_same, policy_means_the_same, rows_stand, translation_means_the_same,
+};
 pub use scope::{Scope, Variable};
-pub use translated::Translated;
-pub use translating::translate;
+pub use translated::{Translated, translate, translate_condition};
 pub use translation_error::TranslationError;

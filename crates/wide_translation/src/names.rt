@@ -15,6 +15,14 @@ use wide_kinds::{Kind, ValueKind};
 /// The iteration name that the translation binds.
 pub(crate) const HELD: &str = "celbpf_a";
 
+/// The iteration names of items that it binds inside.
+pub(crate) const INDEX: &str = "celbpf_i";
+
+pub(crate) const SECOND: &str = "celbpf_b";
+
+/// The root of the namespace.
+pub(crate) const NAMESPACE: &str = "namespaceObject";
+
 /// The root of the parameters.
 pub(crate) const PARAMS: &str = "params";
 
@@ -29,6 +37,8 @@ pub(crate) const VARIABLES: &str = "variables";
 pub(crate) enum Names<'a> {
     /// Outside all macros: the variables, and whether the root `params` has tables beside the parameters.
     Outside(&'a [Variable], bool),
+    /// Outside all macros of a match condition, which may use no variable.
+    Condition(bool),
     /// Inside a macro: its iteration name, the kind of the items, and the names around it.
     Within(&'a str, ValueKind, &'a Names<'a>),
 }
@@ -49,7 +59,7 @@ pub(crate) fn is_root(name: &str) -> bool
     name == "object"
         || name == "oldObject"
         || name == "params"
-        || name == "namespaceObject"
+        || name == NAMESPACE
         || name == "request"
 }
 
@@ -65,8 +75,19 @@ pub(crate) fn is_wrapped(names: &Names) -> bool
     ensures { result ≡ (scope_in names.now).wrapped }
 {
     match names {
-        Names::Outside(_, wrapped) => *wrapped,
+        Names::Outside(_, wrapped) | Names::Condition(wrapped) => *wrapped,
         Names::Within(_, _, outer) => is_wrapped(outer),
+    }
+}
+
+/// Whether the expression is a match condition.
+pub(crate) fn is_condition(names: &Names) -> bool
+    ensures { result ≡ (scope_in names.now).condition }
+{
+    match names {
+        Names::Outside(_, _) => false,
+        Names::Condition(_) => true,
+        Names::Within(_, _, outer) => is_condition(outer),
     }
 }
 
@@ -75,7 +96,7 @@ pub(crate) fn item_kind(name: &str, names: &Names) -> Option<ValueKind>
     ensures { result ≡ lookup name.now (scope_in names.now).names }
 {
     match names {
-        Names::Outside(_, _) => None,
+        Names::Outside(_, _) | Names::Condition(_) => None,
         Names::Within(first, kind, outer) => {
             if *first == name {
                 Some(*kind)
@@ -111,6 +132,7 @@ pub(crate) fn variable_kind(name: &str, names: &Names) -> Option<Kind>
 {
     match names {
         Names::Outside(variables, _) => kind_named(name, variables),
+        Names::Condition(_) => None,
         Names::Within(_, _, outer) => variable_kind(name, outer),
     }
 }

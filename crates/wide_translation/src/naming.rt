@@ -16,7 +16,7 @@ ghost use Rattle.wide_translation.specs.Translated as specs;
 
 use crate::calls::unknown;
 use crate::carried::Carried;
-use crate::names::{Names, VARIABLES, is_root, is_wrapped, item_kind, variable_kind};
+use crate::names::{Names, VARIABLES, is_root, item_kind, variable_kind};
 use crate::translation_error::TranslationError;
 use crate::{build, copying};
 use cel_reader::Literal;
@@ -34,11 +34,11 @@ pub(crate) fn literal(alloc: Global, given: &Literal) -> Result<Carried, Transla
 }
 
 /// A root.
-pub(crate) fn root(alloc: Global, name: &str, wrapped: bool) -> Result<Carried, TranslationError>
-    ensures { ReturnsCarried (specs.root_translation wrapped name.now) result }
+pub(crate) fn root(alloc: Global, name: &str, names: &Names) -> Result<Carried, TranslationError>
+    ensures { ReturnsCarried (specs.root_translation (scope_in names.now) name.now) result }
 {
     if is_root(name) {
-        let tree = build::root(alloc, name, wrapped)?;
+        let tree = build::root(alloc, name, names)?;
         return Ok(Carried::Plain(ValueKind::Dyn, tree));
     }
     Err(unknown(alloc, name))
@@ -46,14 +46,14 @@ pub(crate) fn root(alloc: Global, name: &str, wrapped: bool) -> Result<Carried, 
 
 /// A name.
 pub(crate) fn name(alloc: Global, name: &str, names: &Names) -> Result<Carried, TranslationError>
-    ensures { let s = scope_in names.now in ReturnsCarried (specs.name_translation (lookup name.now s.names) name.now (specs.root_translation s.wrapped name.now)) result }
+    ensures { let s = scope_in names.now in ReturnsCarried (specs.name_translation (lookup name.now s.names) name.now (specs.root_translation s name.now)) result }
 {
     match item_kind(name, names) {
         Some(kind) => {
             let tree = build::name(alloc, name)?;
             Ok(Carried::Plain(kind, tree))
         }
-        None => root(alloc, name, is_wrapped(names)),
+        None => root(alloc, name, names),
     }
 }
 

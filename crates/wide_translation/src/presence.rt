@@ -6,12 +6,14 @@ ghost use Rattle.cel_reader.specs.Tree.{view};
 ghost use Rattle.cel_reader.specs.declared.operator.BinaryOperator.TheVariants as operation;
 ghost use Rattle.wide_translation.specs.Forms as forms;
 ghost use Rattle.wide_translation.specs.Layers.{list_size_tree};
+ghost use Rattle.wide_translation.specs.Translated as specs;
 
 use crate::build;
 use crate::copying::copy;
 use crate::names::is_selector;
 use cel_reader::{BinaryOperator, Expr, Literal};
 use std::alloc::{AllocError, Global};
+use wide_kinds::ValueKind;
 
 /// A field, as an index if its name may not follow a dot.
 pub(crate) fn access(alloc: Global, of: Expr, field: &str) -> Result<Expr, AllocError>
@@ -71,6 +73,21 @@ pub(crate) fn present(alloc: Global, of: &Expr, field: &str) -> Result<Expr, All
     build::binary(alloc, BinaryOperator::And, is_value, has_field)
 }
 
+/// Whether a value of this kind has a field.
+pub(crate) fn present_of(
+    alloc: Global,
+    kind: ValueKind,
+    of: &Expr,
+    field: &str,
+) -> Result<Expr, AllocError>
+    ensures { IfOk result (λ e. view e ≡ specs.present_of kind (view of.now) field.now) }
+{
+    match kind {
+        ValueKind::Map => has_any(alloc, of, field),
+        _ => present(alloc, of, field),
+    }
+}
+
 /// The list of a field of the name that the translation binds, or the empty list.
 pub(crate) fn field_list(alloc: Global, field: &str) -> Result<Expr, AllocError>
     ensures { IfOk result (λ e. view e ≡ forms.field_list_tree forms.held field.now) }
@@ -106,13 +123,28 @@ fn is_below(alloc: Global, position: i64, of: &Expr) -> Result<Expr, AllocError>
 }
 
 /// Whether a list has an item of this index. Null has none.
-pub(crate) fn present_item(alloc: Global, of: &Expr, position: i64) -> Result<Expr, AllocError>
+fn present_item(alloc: Global, of: &Expr, position: i64) -> Result<Expr, AllocError>
     ensures { IfOk result (λ e. (n : ℕ) → position ≡ pos n → view e ≡ forms.present_item_tree (view of.now) n) }
 {
     let is_null = null_test(alloc, BinaryOperator::Equal, of)?;
     let has_item = is_below(alloc, position, of)?;
     let no = Expr::Literal(Literal::Bool(false));
     build::ternary(alloc, is_null, no, has_item)
+}
+
+/// Whether a value of this kind has an item of this index.
+pub(crate) fn present_item_of(
+    alloc: Global,
+    kind: ValueKind,
+    of: &Expr,
+    position: i64,
+) -> Result<Expr, AllocError>
+    ensures { IfOk result (λ e. (n : ℕ) → position ≡ pos n → view e ≡ specs.present_item_of kind (view of.now) n) }
+{
+    match kind {
+        ValueKind::List => is_below(alloc, position, of),
+        _ => present_item(alloc, of, position),
+    }
 }
 
 /// The item of this index.

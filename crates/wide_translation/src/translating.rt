@@ -1,14 +1,15 @@
 //! The translation of wide expressions.
 
-ghost use Rattle.std.specs.Prelude.{[], ◌∷◌, IfOk};
+ghost use Rattle.std.specs.Prelude.{[], ◌∷◌};
 ghost use Rattle.std.specs.Prelude as list;
-ghost use Rattle.cel_reader.specs.Tree as node;
 ghost use Rattle.wide_reader.specs.Tree as wide;
 ghost use Rattle.wide_meaning.specs.Environment as environment;
 ghost use Rattle.wide_meaning.specs.Functions.{function_named};
-ghost use Rattle.wide_translation.specs.Declarations.{IsTranslation, ReturnsCarried, carried_view, scope_in};
-ghost use Rattle.wide_translation.specs.Results.{WideMeans};
-ghost use Rattle.wide_translation.specs.Scope.{is_hidden, scope_of};
+ghost use Rattle.wide_translation.specs.Carried.{taken};
+ghost use Rattle.wide_translation.specs.Declarations.{ReturnsCarried, carried_view, scope_in};
+ghost use Rattle.wide_translation.specs.Layers.{sets_test};
+ghost use Rattle.wide_translation.specs.Lists as lists;
+ghost use Rattle.wide_translation.specs.Scope.{is_hidden};
 ghost use Rattle.wide_translation.specs.Translated as specs;
 ghost use Rattle.wide_translation.specs.Translated.{translated, all_translated, items_translated, entries_translated};
 
@@ -16,12 +17,10 @@ use crate::calls::{as_list, taken_name, unknown, unknown_method};
 use crate::carried::{Carried, list_of, value_of};
 use crate::indices::index;
 use crate::lists::ListParts;
-use crate::names::{Names, hides_variables, is_taken, is_wrapped};
+use crate::names::{Names, hides_variables, is_taken};
 use crate::naming::{compared_uint, denotes_variables, is_empty, name, qualified, root, variable};
-use crate::scope::Scope;
-use crate::translated::{Translated, finished};
 use crate::translation_error::TranslationError;
-use crate::{build, calls, fields, naming, operators, ranges};
+use crate::{calls, entries, fields, list_functions, naming, operators, ranges};
 use cel_macros::TextTest;
 use std::alloc::{AllocError, Global};
 use wide_kinds::ValueKind;
@@ -57,22 +56,16 @@ fn pairs(
 {
     let mut out = Vec::new(alloc);
     for (access, key, value) in given {
-        if matches!(access, Access::Optional) {
-            return Err(TranslationError::Unsupported);
-        }
-        let first = translation(alloc, key, names)?;
-        let Carried::Plain(_, key_tree) = first else {
+        let Some((_, key_tree)) = value_of(translation(alloc, key, names)?) else {
             return Err(TranslationError::OptionalValue);
         };
         let second = translation(alloc, value, names)?;
-        let Carried::Plain(_, value_tree) = second else {
-            return Err(TranslationError::OptionalValue);
-        };
-        if let Err(failed) = out.push((key_tree, value_tree)) {
+        let part = entries::part(alloc, *access, key_tree, second)?;
+        if let Err(failed) = out.push(part) {
             return Err(AllocError::from(failed).into());
         }
     }
-    Ok(Carried::Plain(ValueKind::Map, build::map(out)))
+    entries::map(alloc, out.as_slice())
 }
 
 /// An operand of an operator. One that is compared may be an unsigned int.
@@ -140,6 +133,24 @@ fn qualified_of(
     }
 }
 
+/// A test of two sets, the first of which is translated.
+#[cycle(translation)]
+fn sets(
+    alloc: Global,
+    found: Qualified,
+    first: Carried,
+    second: &Wide,
+    names: &Names,
+) -> Result<Carried, TranslationError>
+    ensures { ReturnsCarried (lists.sets_translation (sets_test found) (taken (carried_view first)) (translated (scope_in names.now) (wide.view second.now))) result }
+{
+    let Some((_, list)) = value_of(first) else {
+        return Err(TranslationError::OptionalValue);
+    };
+    let other = translation(alloc, second, names)?;
+    list_functions::sets(alloc, found, list, other)
+}
+
 /// A function with a namespace.
 #[cycle(translation)]
 #[tactic(auto, using(crate::proofs::Arms::qualified_of_many))]
@@ -155,6 +166,13 @@ fn qualified_call(
     match arguments {
         [] => calls::qualified(alloc, found, name),
         [argument] => qualified_of(alloc, found, name, argument, names),
+        [first, second] => {
+            if list_functions::is_of_sets(found) {
+                let list = translation(alloc, first, names)?;
+                return sets(alloc, found, list, second, names);
+            }
+            Err(unknown(alloc, name))
+        }
         _ => Err(unknown(alloc, name)),
     }
 }
@@ -244,14 +262,18 @@ fn selected(
 /// The translation of an expression.
 #[cycle(translation)]
 #[tactic(auto, using(crate::proofs::WideViews::view_call, crate::proofs::WideViews::view_method, crate::proofs::WideViews::view_list, crate::proofs::WideViews::view_map), unfolding(crate::specs::Translated::translated))]
-fn translation(alloc: Global, e: &Wide, names: &Names) -> Result<Carried, TranslationError>
+pub(crate) fn translation(
+    alloc: Global,
+    e: &Wide,
+    names: &Names,
+) -> Result<Carried, TranslationError>
     ensures { ReturnsCarried (translated (scope_in names.now) (wide.view e.now)) result }
 {
     match e {
         Wide::Literal(given) => naming::literal(alloc, given),
         Wide::Uint(_) => Err(TranslationError::UnsignedInt),
         Wide::Name(given) => name(alloc, given.as_str(), names),
-        Wide::Root(given) => root(alloc, given.as_str(), is_wrapped(names)),
+        Wide::Root(given) => root(alloc, given.as_str(), names),
         Wide::Select(of, access, field) => selected(alloc, of, *access, field.as_str(), names),
         Wide::Index(of, access, at) => {
             let inner = translation(alloc, of, names)?;
@@ -333,29 +355,4 @@ fn translation(alloc: Global, e: &Wide, names: &Names) -> Result<Carried, Transl
             method(alloc, found, operand, arguments.as_slice(), names)
         }
     }
-}
-
-/// The translation of an expression into one that means the same. `wrapped` tells whether the root `params` has the
-/// parameters as the field `v`, beside tables.
-///
-/// # Errors
-///
-/// The fault of the first part, from left to right, that is not translated: `UnknownName` for a name, a function or a
-/// method that has no meaning here, `OptionalValue` for an optional value where a value is needed and the other way
-/// round, `TakenName` for an iteration name that the translation needs, `UnsignedInt` for an unsigned int that is no
-/// operand of a comparison or takes more than 63 bits, `Unsupported` for a form that is not translated. `Memory` if an
-/// allocation fails.
-#[tactic(auto, using(crate::proofs::Finished::finished_means))]
-pub fn translate(
-    alloc: Global,
-    e: &Wide,
-    scope: &Scope,
-    wrapped: bool,
-) -> Result<Translated, TranslationError>
-    ensures exact { IsTranslation (translated (scope_of wrapped scope.now) (wide.view e.now)) result }
-    ensures means { IfOk result (λ t. WideMeans (scope_of wrapped scope.now) (wide.view e.now) t.kind (node.view t.expression)) }
-{
-    let names = Names::Outside(scope.variables(), wrapped);
-    let carried = translation(alloc, e, &names)?;
-    Ok(finished(alloc, carried)?)
 }

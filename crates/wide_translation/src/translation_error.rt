@@ -21,6 +21,9 @@ pub enum TranslationError {
     /// An unsigned int that is no operand of a comparison, or takes more than 63 bits.
     #[error("this unsigned int is not supported here")]
     UnsignedInt,
+    /// An optional entry whose key is no text literal, or more than three of them in a map.
+    #[error("this optional entry is not supported here")]
+    OptionalEntry,
     /// A form that is not translated.
     #[error("this form is not supported here")]
     Unsupported,

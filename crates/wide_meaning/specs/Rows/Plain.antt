@@ -7,7 +7,7 @@ use Rattle.wide_reader.specs.Tree.{uint, root, select, unary, binary, ternary, f
 use Rattle.wide_reader.specs.declared.wide.Access.{TheVariants.Plain}
 use Rattle.wide_reader.specs.declared.wide.Macro.TheVariants as macro
 use Rattle.wide_reader.specs.declared.wide.PairMacro.TheVariants as pair
-use Rattle.wide_meaning.specs.Outcome.{failed, plain}
+use Rattle.wide_meaning.specs.Outcome.{failed, plain, present}
 use Rattle.wide_meaning.specs.Written.{num, neg, str, yes, no, nothing, wrong, name, dot, maybe, item, has, call, method, or_value, list_literal, map_literal, WideGives, is_true, is_false, number, word, object_spec, labels}
 
 -- meanings in the environment of `Written`
@@ -76,6 +76,15 @@ pub record PlainRows : Type 0 where
   pub first : WideGives (or_value (method (dot object_spec "args") "first" []) (str "")) (word "-v")
   pub last : WideGives (or_value (method (list_literal []) "last" []) (num 0)) (number (pos 0))
   pub first_of_text : WideGives (or_value (method (str "a") "first" []) (num 0)) failed
+  -- [1, 2].last() and {'a': 1}.last()
+  pub last_of_two : WideGives (method (list_literal (num 1 ∷ num 2 ∷ [])) "last" []) (present (int (pos 2)))
+  pub last_of_map : WideGives (method (map_literal ((str "a", num 1) ∷ [])) "last" []) failed
+  -- [3, 1, 2].min(), ['a', 'b'].max(), [].min(), [1, 'a'].max() and 1.max()
+  pub least : WideGives (method (list_literal (num 3 ∷ num 1 ∷ num 2 ∷ [])) "min" []) (number (pos 1))
+  pub greatest : WideGives (method (list_literal (str "a" ∷ str "b" ∷ [])) "max" []) (word "b")
+  pub least_of_none : WideGives (method (list_literal []) "min" []) failed
+  pub no_order : WideGives (method (list_literal (num 1 ∷ str "a" ∷ [])) "max" []) failed
+  pub greatest_of_int : WideGives (method (num 1) "max" []) failed
   -- object.spec.ports.map(p, p.?name.orValue('-'))
   pub mapped : WideGives (fold macro.Map (dot object_spec "ports") (codes "p") (or_value (maybe (name "p") "name") (str "-"))) (plain (list (items_of (text (codes "http") ∷ text (codes "-") ∷ []))))
   -- object.spec.ports.exists(p, p.?name == object.metadata.?name)

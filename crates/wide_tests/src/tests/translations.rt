@@ -1,11 +1,12 @@
 //! Translations, worked out by hand, and expressions that are not translated.
 
 use super::cells;
+use cel_reader::Expr;
 use std::alloc::{AllocError, Global};
 use std::test::Fail;
 use wide_kinds::{Kind, ValueKind};
 use wide_reader::read;
-use wide_translation::{Scope, TranslationError, translate};
+use wide_translation::{Scope, TranslationError, translate, translate_condition};
 
 /// One row per line: a wide expression, a broken bar and its translation.
 #[rattlefmt::skip]
@@ -20,7 +21,27 @@ string(true)¦true ? 'true' : 'false'
 object.l.all(x, x != '')¦object.l.all(x, x != '')
 variables.v + params.max¦variables.v + params.max
 variables.o.orValue(0)¦[variables.o].map(celbpf_a, celbpf_a == [] ? 0 : celbpf_a[0])[0]
-object.l.map(x, x.?n.orValue(x))¦object.l.map(x, x != null && has(x.n) ? x.n : x)"#;
+object.l.map(x, x.?n.orValue(x))¦object.l.map(x, x != null && has(x.n) ? x.n : x)
+{?'a': object.?a, 'b': 1}¦object != null && has(object.a) ? {'a': object.a, 'b': 1} : {'b': 1}
+object.l.first().orValue(object.d)¦[[object.l + []].map(celbpf_a, celbpf_a == [] ? [] : [celbpf_a[0]])[0]].map(celbpf_a, celbpf_a == [] ? object.d : celbpf_a[0])[0]
+object.l.last().value()¦[object.l + []].map(celbpf_a, celbpf_a == [] ? [] : [celbpf_a[size(celbpf_a) - 1]])[0][0]
+object.l.max()¦[object.l + []].map(celbpf_a, celbpf_a.filter(celbpf_i, celbpf_a.all(celbpf_b, celbpf_i >= celbpf_b))[0])[0]
+sets.contains(object.a, object.b)¦[object.a + []].map(celbpf_a, [object.b + []].map(celbpf_b, celbpf_b.all(celbpf_i, celbpf_i in celbpf_a))[0])[0]
+sets.intersects(object.a, object.b)¦[object.a + []].map(celbpf_a, [object.b + []].map(celbpf_b, celbpf_a.exists(celbpf_i, celbpf_i in celbpf_b))[0])[0]
+has(variables.m.f)¦has(variables.m.f)
+variables.m[?'a-b'].hasValue()¦has(variables.m.a) ? 'a-b' in variables.m : 'a-b' in variables.m
+variables.l[?0].hasValue()¦0 < size(variables.l + [])
+{'a': 1, ?'b': variables.o}¦variables.o != [] ? {'a': 1, 'b': variables.o[0]} : {'a': 1}
+variables.l.first()¦[variables.l + []].map(celbpf_a, celbpf_a == [] ? [] : [celbpf_a[0]])[0]
+variables.l.last()¦[variables.l + []].map(celbpf_a, celbpf_a == [] ? [] : [celbpf_a[size(celbpf_a) - 1]])[0]
+variables.l.min()¦[variables.l + []].map(celbpf_a, celbpf_a.filter(celbpf_i, celbpf_a.all(celbpf_b, celbpf_i <= celbpf_b))[0])[0]
+sets.intersects(variables.l, [1])¦[variables.l + []].map(celbpf_a, [[1] + []].map(celbpf_b, celbpf_a.exists(celbpf_i, celbpf_i in celbpf_b))[0])[0]"#;
+
+/// One row per line: a match condition, a broken bar and its translation.
+const CONDITIONS: &str = "namespaceObject == null¦dyn(null) == null
+object.l.all(x, .namespaceObject == x)¦object.l.all(x, dyn(null) == x)
+has(namespaceObject.f)¦[dyn(null)].map(celbpf_a, celbpf_a != null && has(celbpf_a.f))[0]
+params.max > 1¦params.max > 1";
 
 /// One row per line: a wide expression, a broken bar and the error in words.
 const REFUSALS: &str = "name¦name is not supported here
@@ -29,22 +50,33 @@ variables.none¦none is not supported here
 object.?a + 1¦an optional value cannot be used here
 object.l.all(object, true)¦object cannot be an iteration name here
 1u + 1¦this unsigned int is not supported here
-object.m.all(k, v, true)¦this form is not supported here";
+object.m.all(k, v, true)¦this form is not supported here
+{?object.t: object.?a}¦this optional entry is not supported here
+{?'a': object.?a, ?'b': object.?a, ?'c': object.?a, ?'d': object.?a}¦this optional entry is not supported here
+object.l.first(1)¦first is not supported here
+sets.contains(object.l)¦contains is not supported here";
 
-/// The variables `v`, of any kind, and `o`, an optional value.
+/// The variables `v`, of any kind, `o`, an optional value, `m`, a map, and `l`, a list.
 fn scope(alloc: Global) -> Result<Scope, AllocError> {
     let mut scope = Scope::new(alloc);
     scope.add("v", Kind::Value(ValueKind::Dyn))?;
     scope.add("o", Kind::Optional(ValueKind::Dyn))?;
+    scope.add("m", Kind::Value(ValueKind::Map))?;
+    scope.add("l", Kind::Value(ValueKind::List))?;
     Ok(scope)
+}
+
+/// Whether an expression is that of the text.
+fn is_written(alloc: Global, found: &Expr, wanted: &str) -> Result<bool, Fail> {
+    let expected = cel_reader::read(alloc, wanted)?;
+    let tree = format!(in alloc; "{found:?}")?;
+    Ok(tree.as_str() == format!(in alloc; "{expected:?}")?.as_str())
 }
 
 /// Whether the text is translated to this expression.
 fn has_translation(alloc: Global, text: &str, wrapped: bool, wanted: &str) -> Result<bool, Fail> {
     let found = translate(alloc, &read(alloc, text)?, &scope(alloc)?, wrapped)?;
-    let expected = cel_reader::read(alloc, wanted)?;
-    let tree = format!(in alloc; "{:?}", found.expression)?;
-    Ok(tree.as_str() == format!(in alloc; "{expected:?}")?.as_str())
+    is_written(alloc, &found.expression, wanted)
 }
 
 #[test]
@@ -55,6 +87,17 @@ fn translates_expressions(rt: HostRuntime) -> Result<(), Fail> {
             has_translation(rt.alloc(), text, false, tree)?,
             "row {text}"
         );
+    }
+    Ok(())
+}
+
+#[test]
+fn translates_conditions(rt: HostRuntime) -> Result<(), Fail> {
+    let alloc = rt.alloc();
+    for line in CONDITIONS.lines() {
+        let (text, tree) = cells(line);
+        let found = translate_condition(alloc, &read(alloc, text)?, false)?;
+        assert!(rt; is_written(alloc, &found.expression, tree)?, "row {text}");
     }
     Ok(())
 }

@@ -10,10 +10,9 @@ use Rattle.wide_translation.specs.declared.translation_error.TranslationError.Th
 use Rattle.wide_translation.specs.Declarations.{scope_in, carried_view}
 use Rattle.wide_translation.specs.Segments.{after_parts}
 use Rattle.wide_translation.specs.Translated.{call_translation, qualified_translation, method_carried}
-use Rattle.wide_translation.proofs.Arms.{none_returns, one_returns, call_taken, call_refused, passed_on}
-use Rattle.wide_translation.proofs.ItemSteps.{item_next, items_refusal, items_misplacement, items_whole, pairs_refusal}
-use Rattle.wide_translation.proofs.ItemSteps.{pairs_whole, pairs_next, key_refused, key_no_value, entry_value_refused}
-use Rattle.wide_translation.proofs.ItemSteps.{entry_no_value, entry_marked}
+use Rattle.wide_translation.proofs.Arms.{none_returns, one_returns, first_refused, first_taken, two_refused, call_taken, call_refused, passed_on}
+use Rattle.wide_translation.proofs.EntrySteps.{entries_refusal, entries_next, entries_whole, key_refused, key_is_optional, entry_value_refused, entry_faulty}
+use Rattle.wide_translation.proofs.ItemSteps.{item_next, items_refusal, items_misplacement, items_whole}
 use Rattle.wide_reader.specs.declared.wide.Wide.{size-Wide}
 use Rattle.wide_translation.proofs.Depths.{arguments_fall}
 use denote.Param.Weighed.{most}
@@ -40,44 +39,58 @@ pub items-returns : goal.items-returns
 items-returns t c =
     items_whole (scope_in c.args.names.now) c.args.given.now c.loop-access.access-index c.loop-access.parts _ (node.view c.in_ok-tree.tree) c.loop-access.invariant c.loop-access-test.false c.in_ok-tree.ensures
 
-pub pairs-returns-then-matches : goal.pairs-returns-then-matches
-pairs-returns-then-matches t c =
-    pairs_refusal (scope_in c.args.names.now) c.args.given.now c.loop-access.access-index c.loop-access-item.result error.Unsupported (map node.entry_view c.loop-access.out.items) _ c.loop-access.invariant c.loop-access-test.true c.loop-access-item.is
-    (λ m y. entry_marked _ _ _ y (search rules))
-
-pub pairs-returns-in_err-first : goal.pairs-returns-in_err-first
-pairs-returns-in_err-first t c =
-    passed_on _ c.in_err-first.field-0.0 c.from_residual.result
-    (pairs_refusal (scope_in c.args.names.now) c.args.given.now c.loop-access.access-index c.loop-access-item.result c.in_err-first.field-0.0 (map node.entry_view c.loop-access.out.items) _ c.loop-access.invariant c.loop-access-test.true c.loop-access-item.is
-    (λ m y. key_refused _ _ _ _ y (search rules) (c.in_err-first.ensures m)))
+pub pairs-returns-in_err-translation : goal.pairs-returns-in_err-translation
+pairs-returns-in_err-translation t c =
+    passed_on _ c.in_err-translation.field-0.0 c.from_residual.result
+    (entries_refusal (scope_in c.args.names.now) c.args.given.now c.loop-access.access-index c.loop-access-item.result c.in_err-translation.field-0.0 c.loop-access.out.items _ c.loop-access.invariant c.loop-access-test.true c.loop-access-item.is
+    (λ m y. key_refused _ _ _ _ y (c.in_err-translation.ensures m)))
     c.from_residual.ensures.0 c.from_residual.ensures.1
 
-pub pairs-returns-in_default-first : goal.pairs-returns-in_default-first
-pairs-returns-in_default-first t c =
-    pairs_refusal (scope_in c.args.names.now) c.args.given.now c.loop-access.access-index c.loop-access-item.result error.OptionalValue (map node.entry_view c.loop-access.out.items) _ c.loop-access.invariant c.loop-access-test.true c.loop-access-item.is
-    (λ m y. key_no_value _ _ _ c.in_ok-first.first y (search rules) c.in_ok-first.ensures c.in_default-first.not-Plain)
+pub pairs-returns-in_default : goal.pairs-returns-in_default
+pairs-returns-in_default t c =
+    entries_refusal (scope_in c.args.names.now) c.args.given.now c.loop-access.access-index c.loop-access-item.result error.OptionalValue c.loop-access.out.items _ c.loop-access.invariant c.loop-access-test.true c.loop-access-item.is
+    (λ m y. key_is_optional _ _ _ (carried_view c.in_ok-translation.field-0) y c.in_ok-translation.ensures c.in_default.ensures)
 
 pub pairs-returns-in_err-second : goal.pairs-returns-in_err-second
 pairs-returns-in_err-second t c =
     passed_on _ c.in_err-second.field-0.0 c.from_residual-in_err-second.result
-    (pairs_refusal (scope_in c.args.names.now) c.args.given.now c.loop-access.access-index c.loop-access-item.result c.in_err-second.field-0.0 (map node.entry_view c.loop-access.out.items) _ c.loop-access.invariant c.loop-access-test.true c.loop-access-item.is
-    (λ m y. entry_value_refused _ _ _ c.in-Plain.field-0 (node.view c.in-Plain.key_tree) _ y (search rules) (c.in_ok-first.ensures ∙ ap (λ (x : CodeCarried). taken (carried_view x)) c.in-Plain.is) (c.in_err-second.ensures m)))
+    (entries_refusal (scope_in c.args.names.now) c.args.given.now c.loop-access.access-index c.loop-access-item.result c.in_err-second.field-0.0 c.loop-access.out.items _ c.loop-access.invariant c.loop-access-test.true c.loop-access-item.is
+    (λ m y. entry_value_refused _ _ _ c.in-Some.field-0-0 (node.view c.in-Some.key_tree) _ y (c.in_ok-translation.ensures ∙ ap taken c.in-Some.ensures) (c.in_err-second.ensures m)))
     c.from_residual-in_err-second.ensures.0 c.from_residual-in_err-second.ensures.1
 
-pub pairs-returns-in_default-second : goal.pairs-returns-in_default-second
-pairs-returns-in_default-second t c =
-    pairs_refusal (scope_in c.args.names.now) c.args.given.now c.loop-access.access-index c.loop-access-item.result error.OptionalValue (map node.entry_view c.loop-access.out.items) _ c.loop-access.invariant c.loop-access-test.true c.loop-access-item.is
-    (λ m y. entry_no_value _ _ _ c.in-Plain.field-0 (node.view c.in-Plain.key_tree) c.in_ok-second.second y (search rules) (c.in_ok-first.ensures ∙ ap (λ (x : CodeCarried). taken (carried_view x)) c.in-Plain.is) c.in_ok-second.ensures c.in_default-second.not-Plain)
+pub pairs-returns-in_err-part : goal.pairs-returns-in_err-part
+pairs-returns-in_err-part t c =
+    passed_on _ c.in_err-part.field-0.0 c.from_residual-in_err-part.result
+    (entries_refusal (scope_in c.args.names.now) c.args.given.now c.loop-access.access-index c.loop-access-item.result c.in_err-part.field-0.0 c.loop-access.out.items _ c.loop-access.invariant c.loop-access-test.true c.loop-access-item.is
+    (λ m y. entry_faulty _ _ _ c.in-Some.field-0-0 (node.view c.in-Some.key_tree) (carried_view c.in_ok-second.second) _ y (c.in_ok-translation.ensures ∙ ap taken c.in-Some.ensures) c.in_ok-second.ensures (c.in_err-part.ensures m)))
+    c.from_residual-in_err-part.ensures.0 c.from_residual-in_err-part.ensures.1
 
 pub pairs-loop-access-preserved : goal.pairs-loop-access-preserved
 pairs-loop-access-preserved t c =
-    pairs_next (scope_in c.args.names.now) c.args.given.now c.loop-access.access-index c.loop-access-item.result c.in-Plain.field-0 c.in-Plain-second.field-0 c.in-Plain.key_tree c.in-Plain-second.value_tree c.loop-access.out.items c.push.new.self.items _ c.loop-access.invariant c.loop-access-test.true c.loop-access-item.is
-    (search rules) (c.in_ok-first.ensures ∙ ap (λ (x : CodeCarried). taken (carried_view x)) c.in-Plain.is) (c.in_ok-second.ensures ∙ ap (λ (x : CodeCarried). taken (carried_view x)) c.in-Plain-second.is) (search rules)
+    entries_next (scope_in c.args.names.now) c.args.given.now c.loop-access.access-index c.loop-access-item.result c.in-Some.field-0-0 (node.view c.in-Some.key_tree) (carried_view c.in_ok-second.second) c.in_ok-part.part c.loop-access.out.items c.push.new.self.items _ c.loop-access.invariant c.loop-access-test.true c.loop-access-item.is
+    (c.in_ok-translation.ensures ∙ ap taken c.in-Some.ensures) c.in_ok-second.ensures c.in_ok-part.ensures (search rules)
 
 pub pairs-returns : goal.pairs-returns
 pairs-returns t c =
-    pairs_whole (scope_in c.args.names.now) c.args.given.now c.loop-access.access-index (map node.entry_view c.loop-access.out.items) _ c.loop-access.invariant c.loop-access-test.false
-    ∙ ap (λ (u : Tree). taken (plain kind.Map u)) (sym c.map.ensures)
+    entries_whole (scope_in c.args.names.now) c.args.given.now c.loop-access.access-index c.loop-access.out.items c.as_slice.result.now _ _ c.loop-access.invariant c.loop-access-test.false
+    c.as_slice.ensures.value c.map.ensures
+
+pub qualified_call-returns-in_err-list-in-len2 : goal.qualified_call-returns-in_err-list-in-len2
+qualified_call-returns-in_err-list-in-len2 t c =
+    passed_on _ c.in_err-list-in-len2.field-0.0 c.from_residual.result
+    (first_refused c.args.found c.args.name.now (scope_in c.args.names.now) c.args.arguments.now c.first-item.result c.second-item.result c.in_err-list-in-len2.field-0.0 (omega arith) c.first-item.is c.second-item.is
+    (sym c.is_of_sets.ensures ∙ c.if-is_of_sets.true) c.in_err-list-in-len2.ensures)
+    c.from_residual.ensures.0 c.from_residual.ensures.1
+
+pub qualified_call-returns-then-is_of_sets : goal.qualified_call-returns-then-is_of_sets
+qualified_call-returns-then-is_of_sets t c =
+    first_taken c.args.found c.args.name.now (scope_in c.args.names.now) c.args.arguments.now c.first-item.result c.second-item.result (carried_view c.in_ok-list-in-len2.list) _ (omega arith) c.first-item.is c.second-item.is
+    (sym c.is_of_sets.ensures ∙ c.if-is_of_sets.true) c.in_ok-list-in-len2.ensures c.sets.ensures
+
+pub qualified_call-returns-else-is_of_sets : goal.qualified_call-returns-else-is_of_sets
+qualified_call-returns-else-is_of_sets t c =
+    two_refused c.args.found c.args.name.now (scope_in c.args.names.now) c.args.arguments.now c.first-item.result c.second-item.result _ (omega arith) c.first-item.is c.second-item.is
+    (sym c.is_of_sets.ensures ∙ c.if-is_of_sets.false) c.unknown.ensures
 
 pub call-returns-in_err-operand-in-len1 : goal.call-returns-in_err-operand-in-len1
 call-returns-in_err-operand-in-len1 t c =

@@ -1,6 +1,5 @@
 -- Loop invariants of the functions of the cycle `translation` (src/translating.rt).
 use Rattle.std.proofs.Common.{◌≡◌, drop, map}
-use Rattle.cel_reader.specs.Tree as node
 use Rattle.wide_reader.specs.Tree as wide
 use Rattle.wide_translation.specs.Declarations.{scope_in}
 use Rattle.wide_translation.specs.Segments.{after_parts, entries_more}
@@ -16,4 +15,4 @@ invariant-items-loop-access l =
 abbrev pub invariant-pairs-loop-access : goal.invariant-pairs-loop-access
 invariant-pairs-loop-access l =
     entries_translated (scope_in l.names) (wide.entries (map wide.entry_view l.given))
-    ≡ entries_more (map node.entry_view l.out.items) (entries_translated (scope_in l.names) (wide.entries (map wide.entry_view (drop l.access-index l.given))))
+    ≡ entries_more l.out.items (entries_translated (scope_in l.names) (wide.entries (map wide.entry_view (drop l.access-index l.given))))

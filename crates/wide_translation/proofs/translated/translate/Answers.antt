@@ -1,4 +1,4 @@
--- Proof obligation of `translate` (src/translating.rt).
+-- Proof obligation of `translate` (src/translated.rt).
 use Rattle.std.proofs.Common.{◌≡◌, ◌∙◌, ap, sym, Bool, List, map, Bor}
 use Rattle.wide_reader.specs.Tree as wide
 use Rattle.wide_translation.specs.Carried.{taken}
@@ -10,7 +10,7 @@ use Rattle.wide_translation.specs.declared.names.Names.TheFolds.{fold-roll-Names
 use Rattle.wide_translation.specs.declared.scope.Variable.{Variable}
 unfoldable use Rattle.wide_translation.specs.Translated.{translated}
 use Rattle.wide_translation.proofs.Finished.{finished_means}
-use Rattle.wide_translation.proofs.translating.translate.Goals as goal
+use Rattle.wide_translation.proofs.translated.translate.Goals as goal
 
 -- the scope outside all macros
 outside : (vs : Bor (List Variable)) (wrapped : Bool) → scope_in (names.Outside vs wrapped) ≡ scope_of wrapped (map declaration vs.now)

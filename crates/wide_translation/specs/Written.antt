@@ -1,0 +1,90 @@
+-- Short notation for translations that are worked out by hand.
+use Rattle.std.specs.Prelude.{◌≡◌, ℕ, true, false, [], ◌∷◌, codes}
+use Prim.Native.String.{String}
+use Rattle.cel_reader.specs.Tree.{Tree, binary, ternary, index}
+use Rattle.cel_reader.specs.Written as plain
+use Rattle.cel_reader.specs.declared.operator.BinaryOperator.TheVariants.{And, Add, Equal, NotEqual, In}
+use Rattle.wide_reader.specs.Tree as wide
+use Rattle.wide_reader.specs.Tree.{Wide, WideEntries}
+use Rattle.wide_reader.specs.declared.wide.Access.{TheVariants.Optional}
+use Rattle.wide_kinds.specs.declared.kind.Kind.{TheVariants.Value}
+use Rattle.wide_kinds.specs.declared.kind.ValueKind.{ValueKind}
+use Rattle.wide_kinds.specs.declared.kind.ValueKind.TheVariants as kind
+use Rattle.wide_meaning.specs.Written.{str, maybe, object_spec}
+use Rattle.wide_translation.specs.Carried as carried
+use Rattle.wide_translation.specs.Carried.{WideFault, taken, refused}
+use Rattle.wide_translation.specs.Scope.{scope_of, condition_scope}
+use Rattle.wide_translation.specs.Translated.{translated}
+
+-- without variables, the expression is translated to this tree of a value of this kind
+abbrev pub Becomes : Wide → ValueKind → Tree → Type 0
+Becomes e k a = translated (scope_of false []) e ≡ taken (carried.plain k a)
+
+-- without variables, the expression is refused
+abbrev pub WideIsRefused : Wide → WideFault → Type 0
+WideIsRefused e f = translated (scope_of false []) e ≡ refused f
+
+-- the same if the root `params` has tables
+abbrev pub BecomesWithTables : Wide → ValueKind → Tree → Type 0
+BecomesWithTables e k a = translated (scope_of true []) e ≡ taken (carried.plain k a)
+
+-- the same for a match condition
+abbrev pub BecomesInCondition : Wide → ValueKind → Tree → Type 0
+BecomesInCondition e k a = translated (condition_scope false) e ≡ taken (carried.plain k a)
+
+-- the same with the variables m, a map, and l, a list
+abbrev pub BecomesWithVariables : Wide → ValueKind → Tree → Type 0
+BecomesWithVariables e k a =
+    translated (scope_of false ((codes "m", Value kind.Map) ∷ (codes "l", Value kind.List) ∷ [])) e ≡ taken (carried.plain k a)
+
+-- object.spec and one of its fields, in the compiled language
+abbrev pub plain_spec : Tree
+plain_spec = plain.dot (plain.name "object") "spec"
+
+abbrev pub plain_field : String → Tree
+plain_field f = plain.dot plain_spec f
+
+-- object.spec != null && has(object.spec.f)
+abbrev pub is_there : String → Tree
+is_there f = binary And (binary NotEqual plain_spec plain.nothing) (plain.call "has" (plain_field f ∷ []))
+
+-- the list of that field, or []
+abbrev pub field_or_nothing : String → Tree
+field_or_nothing f = ternary (is_there f) (plain.list_literal (plain_field f ∷ [])) (plain.list_literal [])
+
+-- an iteration name of the translation, and the item n of a name
+abbrev pub plain_index : Tree
+plain_index = plain.name "celbpf_i"
+
+abbrev pub item_of : String → ℕ → Tree
+item_of y n = index (plain.name y) (plain.num n)
+
+-- [a].map(x, t)[0]
+abbrev pub let_in : String → Tree → Tree → Tree
+let_in x a t = index (plain.method (plain.list_literal (a ∷ [])) "map" (plain.name x ∷ t ∷ [])) (plain.num 0)
+
+-- the list a, bound to x: [a + []].map(x, t)[0]
+abbrev pub list_in : String → Tree → Tree → Tree
+list_in x a t = let_in x (binary Add a (plain.list_literal [])) t
+
+abbrev pub first_held : Tree
+first_held = plain.name "celbpf_a"
+
+abbrev pub second_held : Tree
+second_held = plain.name "celbpf_b"
+
+-- a.all(celbpf_i, celbpf_i in b)
+abbrev pub all_in : Tree → Tree → Tree
+all_in a b = plain.method a "all" (plain_index ∷ binary In plain_index b ∷ [])
+
+-- one more entry ?'f': object.spec.?f
+abbrev pub maybe_entry : String → WideEntries → WideEntries
+maybe_entry f more = wide.more_entries Optional (str f) (maybe object_spec f) more
+
+-- []
+abbrev pub nothing_in : Tree
+nothing_in = plain.list_literal []
+
+-- t, unless the list bound to celbpf_a is empty
+abbrev pub unless_empty : Tree → Tree → Tree
+unless_empty e t = ternary (binary Equal first_held nothing_in) e t
