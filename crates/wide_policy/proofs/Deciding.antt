@@ -1,15 +1,16 @@
 -- A policy whose expressions carry the values of another's decides as the other does.
 use Rattle.std.proofs.Common.{◌≡◌, ℕ, List, [], ◌∷◌, map, fold, Option, Some, None, option_map, refl, sym, ap, ◌∙◌, subst, false}
-use Rattle.value_store.specs.Value.{Value as StoreValue, ValueOrError, null}
+use Rattle.value_store.specs.Value.{Value, ValueOrError, null}
 use Rattle.cel_reader.specs.Tree.{Tree}
 use Rattle.cel_macros.specs.Environment.{Environment, Roots}
 unfoldable use Rattle.cel_macros.specs.Meaning.{meaning}
 use Rattle.wide_reader.specs.Tree.{Wide}
-use Rattle.wide_kinds.specs.declared.kind.Kind.{Kind, TheVariants.Value}
+use Rattle.wide_kinds.specs.declared.kind.Kind.TheVariants as of
 use Rattle.wide_meaning.specs.Environment.{WideEnvironment}
 use Rattle.wide_meaning.specs.Meaning.{wide_meaning}
 use Rattle.wide_meaning.specs.Outcome.{Outcome, plain_part}
-use Rattle.wide_translation.specs.Placed.{WideStep, AreTranslated, kind_of, wide_environment, environment, with_outcome, with_value as with_step_value, PolicyMeansTheSame}
+use Rattle.wide_translation.specs.Placed.{WideStep, AreTranslated, kind_of, condition_roots, wide_environment, environment, with_outcome, with_value as with_step_value, PolicyMeansTheSame, ConditionMeansTheSame}
+use Rattle.wide_translation.specs.Scope.{scope_of, condition_scope}
 unfoldable use Rattle.policy_glue.specs.Evaluation.{decision_of}
 use Rattle.policy_glue.specs.Evaluation.{condition_values, with_value, values_of, validation_value, validation_values}
 use Rattle.policy_glue.specs.Trees.{VariableTree, ValidationTree, PolicyTree}
@@ -46,33 +47,34 @@ module _ (law : PolicyMeansTheSame) (others : Wide → WideEnvironment → Outco
     abbrev env : Environment
     env = environment roots (fold (with_step_value roots) [] vs)
 
-    value_same : (e : Wide) (a : Tree) → CarriesValue (map kind_of vs) e a → meaning a env ≡ wide_value others wide_env e
-    value_same e a c = (law others false null roots vs e (Value c.kind) a are c.means).means
+    value_same : (e : Wide) (a : Tree) → CarriesValue (scope_of false (map kind_of vs)) e a → meaning a env ≡ wide_value others wide_env e
+    value_same e a c = (law others false null roots vs e (of.Value c.kind) a are c.means).means
 
-    message_same : (m : Option Wide) (b : Option Tree) → CarriesMessage (map kind_of vs) m b
+    message_same : (m : Option Wide) (b : Option Tree) → CarriesMessage (scope_of false (map kind_of vs)) m b
         → option_map (λ x. meaning x env) b ≡ option_map (λ x. wide_value others wide_env x) m
     message_same (Some e) (Some a) c = ap Some (value_same e a c)
     message_same (Some e) None c = absurd c
     message_same None (Some a) c = absurd c
     message_same None None c = refl
 
-    validation_same : (r : WideValidationTree) (s : ValidationTree) → CarriesValidation (map kind_of vs) r s
+    validation_same : (r : WideValidationTree) (s : ValidationTree) → CarriesValidation (scope_of false (map kind_of vs)) r s
         → validation_value env s ≡ wide_validation_value others wide_env r
     validation_same r s c =
         let first : meaning s.expression env ≡ wide_value others wide_env r.expression = value_same r.expression s.expression c.expression in
         let second = message_same r.message s.message c.message in
         λ i. (first i, second i)
 
-pub carried_decides : PolicyMeansTheSame → CarriedPolicyDecides
+pub carried_decides : PolicyMeansTheSame → ConditionMeansTheSame → CarriedPolicyDecides
 unfolding decision_of wide_decision_of
-carried_decides law others f w t roots c =
+carried_decides law condition_law others f w t roots c =
     let vs : List WideStep = c.steps in
     let conditions : condition_values roots t.conditions ≡ wide_condition_values others roots w.conditions =
-    same_values (CarriesValue []) (λ e. wide_value others (wide_environment roots []) e) (λ a. meaning a (environment roots [])) w.conditions t.conditions
-    (value_same law others roots [] tt) c.conditions in
+    same_values (CarriesValue (condition_scope false)) (λ e. wide_value others (wide_environment (condition_roots roots) []) e)
+    (λ a. meaning a (environment roots [])) w.conditions t.conditions
+    (λ e a is. (condition_law others false null roots e (of.Value is.kind) a is.means).means) c.conditions in
     let here : values_of roots t.variables ≡ fold (with_step_value roots) [] vs = ap (values_of roots) c.trees_are ∙ profile_values law others roots [] vs in
     let wide : wide_values_of others roots w.variables ≡ fold (with_outcome others roots) [] vs = ap (wide_values_of others roots) c.wide_are ∙ wide_values law others roots [] vs in
-    let between = same_values (CarriesValidation (map kind_of vs)) (wide_validation_value others (wide_env law others roots vs c.are_translated)) (validation_value (env law others roots vs c.are_translated))
+    let between = same_values (CarriesValidation (scope_of false (map kind_of vs))) (wide_validation_value others (wide_env law others roots vs c.are_translated)) (validation_value (env law others roots vs c.are_translated))
     w.validations t.validations (validation_same law others roots vs c.are_translated) c.validations in
     let validations : validation_values roots t ≡ wide_validation_values others roots w =
     ap (λ (xs : List (List ℕ × ValueOrError)). map (validation_value (environment roots xs)) t.validations) here ∙ between

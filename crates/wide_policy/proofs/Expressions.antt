@@ -15,7 +15,6 @@ use Rattle.wide_reader.specs.declared.wide_error.WideReadError.{WideReadError}
 use Rattle.wide_reader.specs.declared.wide_error.WideReadError.TheVariants as wide_read
 use Rattle.wide_kinds.specs.declared.kind.Kind.{Kind}
 use Rattle.wide_translation.specs.Declarations.{IsTranslation, is_memory}
-use Rattle.wide_translation.specs.Scope.{scope_of}
 use Rattle.wide_translation.specs.Translated.{translated}
 use Rattle.wide_translation.specs.declared.translated.Translated.{Translated}
 use Rattle.wide_translation.specs.declared.translation_error.TranslationError.{TranslationError}
@@ -23,7 +22,7 @@ use Rattle.wide_translation.specs.declared.translation_error.TranslationError.Th
 use Rattle.policy_glue.specs.declared.part_kind.PartKind.{PartKind}
 use Rattle.wide_policy.specs.Errors.{from_reader, from_translation, from_writer, in_part}
 use Rattle.wide_policy.specs.Returns.{ReturnsTranslation, ReturnsExpression, ReturnsPart, IsPartTakenAs}
-use Rattle.wide_policy.specs.Taking.{TakenExpression, IsTranslated, IsTakenPart, IsRefusedPart, RefusesPart, fits}
+use Rattle.wide_policy.specs.Taking.{TakenExpression, IsTranslated, IsTakenPart, IsRefusedPart, RefusesPart, fits, scope_for}
 use Rattle.wide_policy.specs.declared.expression_error.WideExpressionError.{WideExpressionError}
 use Rattle.wide_policy.specs.declared.expression_error.WideExpressionError.TheVariants as error
 use Rattle.wide_policy.specs.declared.wide_policy_error.WidePolicyError.{WidePolicyError}
@@ -32,38 +31,39 @@ use Rattle.wide_policy.specs.declared.wide_policy_error.WidePolicyError.{WidePol
 pub handed_on : {X E : Type 0} (Target : Result X E → Type 0) (e : E) (r : Result X E) → Target (Err e) → IsErr r → IsErrAnd r (λ x. x ≡ e) → Target r
 handed_on Target e r here err is = grind (arith, false≢true)
 
-module _ (variables : List (List ℕ × Kind)) (text : List ℕ) where
+module _ (p : PartKind) (variables : List (List ℕ × Kind)) (text : List ℕ) where
   -- the text is not an expression
-  unread_text : (e : ReadError) → WideReadReturns text (Err (wide_read.Text e)) → ReturnsTranslation variables text (Err (from_reader (wide_read.Text e)))
+  unread_text : (e : ReadError) → WideReadReturns text (Err (wide_read.Text e)) → ReturnsTranslation p variables text (Err (from_reader (wide_read.Text e)))
   unread_text read_error.Memory said = λ some. absurd (some refl)
-  unread_text (read_error.UnknownCharacter place) said = λ some p. said
-  unread_text (read_error.InvalidTextLiteral place) said = λ some p. said
-  unread_text (read_error.IntOutOfRange place) said = λ some p. said
-  unread_text (read_error.UnexpectedToken place) said = λ some p. said
-  unread_text (read_error.TooManyOpen place) said = λ some p. said
-  unread_text (read_error.TextTooLong place) said = λ some p. said
+  unread_text (read_error.UnknownCharacter place) said = λ some. said
+  unread_text (read_error.InvalidTextLiteral place) said = λ some. said
+  unread_text (read_error.IntOutOfRange place) said = λ some. said
+  unread_text (read_error.UnexpectedToken place) said = λ some. said
+  unread_text (read_error.TooManyOpen place) said = λ some. said
+  unread_text (read_error.TextTooLong place) said = λ some. said
 
-  pub unread_by : (e : WideReadError) → WideReadReturns text (Err e) → ReturnsTranslation variables text (Err (from_reader e))
+  pub unread_by : (e : WideReadError) → WideReadReturns text (Err e) → ReturnsTranslation p variables text (Err (from_reader e))
   unread_by (wide_read.Text e) said = unread_text e said
-  unread_by (wide_read.Bytes place) said = λ some p. said
-  unread_by (wide_read.Double place) said = λ some p. said
-  unread_by (wide_read.Macro fault) said = λ some p. said
+  unread_by (wide_read.Bytes place) said = λ some. said
+  unread_by (wide_read.Double place) said = λ some. said
+  unread_by (wide_read.Macro fault) said = λ some. said
 
   -- the expression has no translation
-  pub untranslated_by : (w : Wide) (e : TranslationError) → IsWide text w → IsTranslation (translated (scope_of false variables) w) (Err e)
-      → ReturnsTranslation variables text (Err (from_translation e))
+  pub untranslated_by : (w : Wide) (e : TranslationError) → IsWide text w → IsTranslation (translated (scope_for p variables) w) (Err e)
+      → ReturnsTranslation p variables text (Err (from_translation e))
   untranslated_by w translation.Memory reads said = λ some. absurd (some refl)
-  untranslated_by w (translation.UnknownName n) reads said = λ some p. (refl, w, reads, said refl)
-  untranslated_by w translation.OptionalValue reads said = λ some p. (refl, w, reads, said refl)
-  untranslated_by w (translation.TakenName n) reads said = λ some p. (refl, w, reads, said refl)
-  untranslated_by w translation.UnsignedInt reads said = λ some p. (refl, w, reads, said refl)
-  untranslated_by w translation.Unsupported reads said = λ some p. (refl, w, reads, said refl)
+  untranslated_by w (translation.UnknownName n) reads said = λ some. (refl, w, reads, said refl)
+  untranslated_by w translation.OptionalValue reads said = λ some. (refl, w, reads, said refl)
+  untranslated_by w (translation.TakenName n) reads said = λ some. (refl, w, reads, said refl)
+  untranslated_by w translation.UnsignedInt reads said = λ some. (refl, w, reads, said refl)
+  untranslated_by w translation.OptionalEntry reads said = λ some. (refl, w, reads, said refl)
+  untranslated_by w translation.Unsupported reads said = λ some. (refl, w, reads, said refl)
 
-  pub translated_is : (w : Wide) (t : Translated) → IsWide text w → IsTranslation (translated (scope_of false variables) w) (Ok t) → ReturnsTranslation variables text (Ok t)
+  pub translated_is : (w : Wide) (t : Translated) → IsWide text w → IsTranslation (translated (scope_for p variables) w) (Ok t) → ReturnsTranslation p variables text (Ok t)
   translated_is w t reads said =
       (record { wide = w; kind = t.kind; tree = view t.expression }, record { reads = reads; translation = said }, refl, refl)
 
-  module _ (p : PartKind) (t : Translated) (one : ReturnsTranslation variables text (Ok t)) where
+  module _ (t : Translated) (one : ReturnsTranslation p variables text (Ok t)) where
     pub optional_is : fits p t.kind ≡ false → IsRefusedPart p variables text error.OptionalResult
     optional_is other = (one.0, one.1, ap (fits p) one.2 ∙ other)
 
@@ -79,13 +79,13 @@ module _ (variables : List (List ℕ × Kind)) (text : List ℕ) where
       text_is = said.0 ∙ ap printed (sym one.3);
     }
 
-  part_by : (p : PartKind) (place : ℕ) (e : WideExpressionError) → ReturnsExpression p variables text (Err e) → ReturnsPart p place variables text (Err (in_part p place e))
-  part_by p place (error.Unread e) said = λ some. record { cause = error.Unread e; because = said (λ is. cc); is = refl }
-  part_by p place (error.Untranslated e) said = λ some. record { cause = error.Untranslated e; because = said (λ is. cc); is = refl }
-  part_by p place error.OptionalResult said = λ some. record { cause = error.OptionalResult; because = said (λ is. cc); is = refl }
-  part_by p place error.Unwritten said = λ some. record { cause = error.Unwritten; because = said (λ is. cc); is = refl }
-  part_by p place error.Memory said = λ some. absurd (some refl)
+  part_by : (place : ℕ) (e : WideExpressionError) → ReturnsExpression p variables text (Err e) → ReturnsPart p place variables text (Err (in_part p place e))
+  part_by place (error.Unread e) said = λ some. record { cause = error.Unread e; because = said (λ is. cc); is = refl }
+  part_by place (error.Untranslated e) said = λ some. record { cause = error.Untranslated e; because = said (λ is. cc); is = refl }
+  part_by place error.OptionalResult said = λ some. record { cause = error.OptionalResult; because = said (λ is. cc); is = refl }
+  part_by place error.Unwritten said = λ some. record { cause = error.Unwritten; because = said (λ is. cc); is = refl }
+  part_by place error.Memory said = λ some. absurd (some refl)
 
-  pub part_refused : (p : PartKind) (place : ℕ) (e : WideExpressionError) (x : WidePolicyError) → ReturnsExpression p variables text (Err e) → x ≡ in_part p place e
+  pub part_refused : (place : ℕ) (e : WideExpressionError) (x : WidePolicyError) → ReturnsExpression p variables text (Err e) → x ≡ in_part p place e
       → ReturnsPart p place variables text (Err x)
-  part_refused p place e x said is = subst (λ (y : WidePolicyError). ReturnsPart p place variables text (Err y)) (sym is) (part_by p place e said)
+  part_refused place e x said is = subst (λ (y : WidePolicyError). ReturnsPart p place variables text (Err y)) (sym is) (part_by place e said)

@@ -24,7 +24,6 @@ use Rattle.wide_kinds.specs.declared.kind.Kind.{Kind}
 use Rattle.wide_translation.specs.Carried.{Translation, Carried, plain, guarded, listed, taken as is_taken, refused as is_refused}
 use Rattle.wide_translation.specs.Declarations.{IsTranslatedTo, fault_of}
 use Rattle.wide_translation.specs.Placed.{WideStep, kind_of}
-use Rattle.wide_translation.specs.Scope.{scope_of}
 use Rattle.wide_translation.specs.Translated.{translated}
 use Rattle.wide_translation.specs.declared.translation_error.TranslationError.{TranslationError}
 use Rattle.policy_glue.specs.Policy.{NamedExpression, Validation, Policy}
@@ -35,7 +34,7 @@ use Rattle.wide_policy.proofs.Trees.{PartsHold, parts_hold}
 use Rattle.wide_policy.specs.Carrying.{EachPair}
 use Rattle.wide_policy.specs.Laws.{HasSameTexts}
 use Rattle.wide_policy.specs.Reading.{IsWidePolicy, WidePolicyReturns}
-use Rattle.wide_policy.specs.Taking.{TakenExpression, IsTranslated, IsTakenPart, IsRefusedPart, IsUnreadWide, RefusesPart, EndsWith, TakesNamed, TakesWideVariable, RefusesWideVariable, TakesWideCondition, RefusesWideCondition, TakenValidation, TakesWideMessage, TakesWideValidation, RefusesWideValidation, TakenParts, WidePartsEnd, expression_of, fits, kept_text, profile_named, profile_of, profile_validation, source_of}
+use Rattle.wide_policy.specs.Taking.{TakenExpression, IsTranslated, scope_for, IsTakenPart, IsRefusedPart, IsUnreadWide, RefusesPart, EndsWith, TakesNamed, TakesWideVariable, RefusesWideVariable, TakesWideCondition, RefusesWideCondition, TakenValidation, TakesWideMessage, TakesWideValidation, RefusesWideValidation, TakenParts, WidePartsEnd, expression_of, fits, kept_text, profile_named, profile_of, profile_validation, source_of}
 use Rattle.wide_policy.specs.Taking as taking
 use Rattle.wide_policy.specs.WideDocuments.{wide_policy_in}
 use Rattle.wide_policy.specs.declared.expression_error.WideExpressionError.{WideExpressionError}
@@ -98,37 +97,36 @@ one_taken (is_taken (guarded v g t)) k j a b is also = (is.0 ∙ sym also.0, is.
 one_taken (is_taken (listed v l)) k j a b is also = (is.0 ∙ sym also.0, is.1 ∙ sym also.1)
 one_taken (is_refused f) k j a b is also = absurd is
 
-module _ (variables : List (List ℕ × Kind)) (text : List ℕ) where
-  one_translated : (x y : TakenExpression) → IsTranslated variables text x → IsTranslated variables text y → x ≡ y
+module _ (p : PartKind) (variables : List (List ℕ × Kind)) (text : List ℕ) where
+  one_translated : (x y : TakenExpression) → IsTranslated p variables text x → IsTranslated p variables text y → x ≡ y
   one_translated x y is also =
       let wide : x.wide ≡ y.wide = one_wide text x.wide y.wide is.reads also.reads in
-      let both = one_taken (translated (scope_of false variables) y.wide) x.kind y.kind x.tree y.tree
-      (subst (λ (w : Wide). IsTranslatedTo (translated (scope_of false variables) w) x.kind x.tree) wide is.translation) also.translation in
+      let both = one_taken (translated (scope_for p variables) y.wide) x.kind y.kind x.tree y.tree
+      (subst (λ (w : Wide). IsTranslatedTo (translated (scope_for p variables) w) x.kind x.tree) wide is.translation) also.translation in
       λ i. record { wide = wide i; kind = both.0 i; tree = both.1 i }
 
-  not_untranslated : (x : TakenExpression) (w : Wide) (e : TranslationError) → IsTranslated variables text x → IsWide text w → translated (scope_of false variables) w ≡ is_refused (fault_of e) → ⊥
+  not_untranslated : (x : TakenExpression) (w : Wide) (e : TranslationError) → IsTranslated p variables text x → IsWide text w → translated (scope_for p variables) w ≡ is_refused (fault_of e) → ⊥
   not_untranslated x w e is reads unsaid =
       let wide : x.wide ≡ w = one_wide text x.wide w is.reads reads in
-      subst (λ (t : Translation). IsTranslatedTo t x.kind x.tree) (ap (translated (scope_of false variables)) wide ∙ unsaid) is.translation
+      subst (λ (t : Translation). IsTranslatedTo t x.kind x.tree) (ap (translated (scope_for p variables)) wide ∙ unsaid) is.translation
 
-  module _ (p : PartKind) where
-    pub one_part : (x y : TakenExpression) → IsTakenPart p variables text x → IsTakenPart p variables text y → x ≡ y
-    one_part x y is also = one_translated x y is.is also.is
+  pub one_part : (x y : TakenExpression) → IsTakenPart p variables text x → IsTakenPart p variables text y → x ≡ y
+  one_part x y is also = one_translated x y is.is also.is
 
-    -- a part that is taken is not refused
-    pub taken_part : (x : TakenExpression) (e : WideExpressionError) → IsTakenPart p variables text x → IsRefusedPart p variables text e → ⊥
-    taken_part x (error.Unread e) is why = read_text text x.wide e is.is.reads why
-    taken_part x (error.Untranslated e) is why = not_untranslated x why.1 e is.is why.2 why.3
-    taken_part x error.OptionalResult is why =
-        let same = one_translated x why.0 is.is why.1 in
-        true≢false (sym is.fit ∙ ap (λ (y : TakenExpression). fits p y.kind) same ∙ why.2)
-    taken_part x error.Unwritten is why =
-        let same = one_translated x why.0 is.is why.1 in
-        why.3 (subst (λ (y : TakenExpression). IsReadBack y.tree) same is.written)
-    taken_part x error.Memory is why = why
+  -- a part that is taken is not refused
+  pub taken_part : (x : TakenExpression) (e : WideExpressionError) → IsTakenPart p variables text x → IsRefusedPart p variables text e → ⊥
+  taken_part x (error.Unread e) is why = read_text text x.wide e is.is.reads why
+  taken_part x (error.Untranslated e) is why = not_untranslated x why.1 e is.is why.2 why.3
+  taken_part x error.OptionalResult is why =
+      let same = one_translated x why.0 is.is why.1 in
+      true≢false (sym is.fit ∙ ap (λ (y : TakenExpression). fits p y.kind) same ∙ why.2)
+  taken_part x error.Unwritten is why =
+      let same = one_translated x why.0 is.is why.1 in
+      why.3 (subst (λ (y : TakenExpression). IsReadBack y.tree) same is.written)
+  taken_part x error.Memory is why = why
 
-    pub taken_place : (x : TakenExpression) (place : ℕ) (e : WidePolicyError) → IsTakenPart p variables text x → RefusesPart p variables place text e → ⊥
-    taken_place x place e is why = taken_part x why.cause is why.because
+  pub taken_place : (x : TakenExpression) (place : ℕ) (e : WidePolicyError) → IsTakenPart p variables text x → RefusesPart p variables place text e → ⊥
+  taken_place x place e is why = taken_part x why.cause is why.because
 
 -- ---- lists of parts
 
@@ -164,11 +162,11 @@ module _ (p : PartKind) (variables : List (List ℕ × Kind)) (n : NamedExpressi
   one_named : (a b : WideStep) → TakesNamed p variables n a → TakesNamed p variables n b → a ≡ b
   one_named a b is also =
       let name : a.name ≡ b.name = is.name ∙ sym also.name in
-      let same = one_part variables n.expression p (expression_of a) (expression_of b) is.expression also.expression in
+      let same = one_part p variables n.expression (expression_of a) (expression_of b) is.expression also.expression in
       λ i. record { name = name i; wide = (same i).wide; kind = (same i).kind; tree = (same i).tree }
 
   taken_named : (a : WideStep) (place : ℕ) (e : WidePolicyError) → TakesNamed p variables n a → RefusesPart p variables place n.expression e → ⊥
-  taken_named a place e is why = taken_place variables n.expression p (expression_of a) place e is.expression why
+  taken_named a place e is why = taken_place p variables n.expression (expression_of a) place e is.expression why
 
 one_variables : (ns : List NamedExpression) (vs : List WideStep) (s : Result (List WideStep) WidePolicyError) → taking.WideVariablesEnd ns (Ok vs) → taking.WideVariablesEnd ns s → s ≡ Ok vs
 one_variables ns vs s is also =
@@ -198,11 +196,11 @@ module _ (r : MessageRule) (variables : List (List ℕ × Kind)) where
   one_message None (Some x) y (Some e) f is also = absurd is
   one_message (Some text) None y None f is also = absurd is
   one_message (Some text) (Some x) y (Some e) f is also = absurd is
-  one_message (Some text) (Some x) (Some y) None None is also = (ap Some (one_part variables text part.Message x y is also), refl)
-  one_message (Some text) (Some x) None None (Some f) is also = absurd (taken_part variables text part.Message x f is also.1)
+  one_message (Some text) (Some x) (Some y) None None is also = (ap Some (one_part part.Message variables text x y is also), refl)
+  one_message (Some text) (Some x) None None (Some f) is also = absurd (taken_part part.Message variables text x f is also.1)
   one_message (Some text) (Some x) None None None is also = absurd also
   one_message (Some text) (Some x) (Some y) None (Some f) is also = absurd also
-  one_message (Some text) None (Some y) (Some e) None is also = absurd (taken_part variables text part.Message y e also is.1)
+  one_message (Some text) None (Some y) (Some e) None is also = absurd (taken_part part.Message variables text y e also is.1)
   one_message (Some text) None None (Some e) (Some f) is also = (refl, refl)
   one_message (Some text) None None (Some e) None is also = absurd also
   one_message (Some text) None (Some y) (Some e) (Some f) is also = absurd also
@@ -215,7 +213,7 @@ module _ (r : MessageRule) (variables : List (List ℕ × Kind)) where
   one_profile : (n : Validation) (a b : TakenValidation) → TakesWideValidation r variables n a → TakesWideValidation r variables n b → profile_validation a ≡ profile_validation b
   one_profile n a b is also =
       let source = one_source n a b is also in
-      let tree = one_part variables n.expression part.Validation a.expression b.expression is.expression also.expression in
+      let tree = one_part part.Validation variables n.expression a.expression b.expression is.expression also.expression in
       let message = (one_message n.message_expression a.message b.message a.left_out b.left_out is.message also.message).0 in
       λ i. record {
         expression = printed (tree i).tree;
@@ -226,13 +224,13 @@ module _ (r : MessageRule) (variables : List (List ℕ × Kind)) where
 
   taken_message : (text : List ℕ) (x : Option TakenExpression) (e : Option WideExpressionError) (f : WidePolicyError) (place : ℕ) → r ≡ rule.Required → RefusesPart part.Message variables place text f
       → TakesWideMessage r variables (Some text) x e → ⊥
-  taken_message text (Some x) None f place required why is = taken_place variables text part.Message x place f is why
+  taken_message text (Some x) None f place required why is = taken_place part.Message variables text x place f is why
   taken_message text None (Some e) f place required why is = let both : rule.Required ≡ rule.LeftOut = sym required ∙ is.0 in absurd (cc)
   taken_message text None None f place required why is = is
   taken_message text (Some x) (Some e) f place required why is = is
 
   taken_validation : (place : ℕ) (n : Validation) (a : TakenValidation) (e : WidePolicyError) → TakesWideValidation r variables n a → RefusesWideValidation r variables place n e → ⊥
-  taken_validation place n a e is (taking.expression f why) = taken_place variables n.expression part.Validation a.expression place f is.expression why
+  taken_validation place n a e is (taking.expression f why) = taken_place part.Validation variables n.expression a.expression place f is.expression why
   taken_validation place n a e is (taking.message x text f required other has why) =
       taken_message text a.message a.left_out f place required why (subst (λ (t : Option (List ℕ)). TakesWideMessage r variables t a.message a.left_out) has is.message)
 

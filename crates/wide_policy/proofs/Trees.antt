@@ -19,6 +19,7 @@ use Rattle.policy_glue.specs.Trees.{VariableTree, ValidationTree, PolicyTree}
 use Rattle.policy_glue.specs.declared.compile_error.CompileError.{CompileError}
 use Rattle.policy_glue.specs.declared.part_kind.PartKind.TheVariants as part
 use Rattle.wide_policy.proofs.Chains.{all_hold, all_paired}
+use Rattle.wide_translation.specs.Scope.{scope_of, condition_scope}
 use Rattle.wide_policy.proofs.Values.{means_of, condition_carries, validation_carries, message_carries}
 use Rattle.wide_policy.proofs.Pairs.{pairs_right, pairs_both, same_seconds}
 use Rattle.wide_policy.specs.Carrying.{EachPair, CarriesValue, CarriesMessage, CarriesValidation, CarriesPolicy, wide_variable, profile_variable}
@@ -45,7 +46,7 @@ variable_more : (taken : List WideStep) (n : NamedExpression) (v : WideStep) (ns
     → VariablesHold (taken ++ v ∷ []) ns more → VariablesHold taken (n ∷ ns) (v ∷ more)
 variable_more taken n v ns more is rest = record {
   translated = (
-    means_of (map kind_of taken) n.expression (expression_of v) is.expression.is,
+    means_of part.Variable (map kind_of taken) n.expression (expression_of v) is.expression.is,
     subst (λ (ks : List (List ℕ × Kind)). AreTranslated false ks more) (map-append kind_of taken (v ∷ [])) rest.translated,
   );
   pairs = ((map kind_of taken, is), rest.pairs);
@@ -78,7 +79,7 @@ parts_hold r p t ends = parts_by r p (Ok t) t ends refl
 
 module _ (r : MessageRule) (variables : List (List ℕ × Kind)) where
   carries_message : (text : Option (List ℕ)) (x : Option TakenExpression) (e : Option WideExpressionError) → TakesWideMessage r variables text x e
-      → CarriesMessage variables (option_map (λ (y : TakenExpression). y.wide) x) (option_map (λ (y : TakenExpression). y.tree) x)
+      → CarriesMessage (scope_of false variables) (option_map (λ (y : TakenExpression). y.wide) x) (option_map (λ (y : TakenExpression). y.tree) x)
   carries_message text None e h = tt
   carries_message None (Some x) None h = absurd h
   carries_message None (Some x) (Some e) h = absurd h
@@ -250,9 +251,9 @@ parts_carry r p t holds = record {
   are_translated = holds.translated;
   wide_are = refl;
   trees_are = refl;
-  conditions = pairs_both (TakesNamed part.Condition []) (CarriesValue []) (λ (v : WideStep). v.wide) (λ (v : WideStep). v.tree) p.conditions t.conditions
+  conditions = pairs_both (TakesNamed part.Condition []) (CarriesValue (condition_scope false)) (λ (v : WideStep). v.wide) (λ (v : WideStep). v.tree) p.conditions t.conditions
       (λ n v is. condition_carries [] n.expression (expression_of v) is.expression) holds.conditions;
-  validations = pairs_both (TakesWideValidation r (map kind_of t.variables)) (CarriesValidation (map kind_of t.variables)) wide_validation validation_tree p.validations t.validations
+  validations = pairs_both (TakesWideValidation r (map kind_of t.variables)) (CarriesValidation (scope_of false (map kind_of t.variables))) wide_validation validation_tree p.validations t.validations
       (λ n v is. record {
         expression = validation_carries (map kind_of t.variables) n.expression v.expression is.expression;
         message = carries_message r (map kind_of t.variables) n.message_expression v.message v.left_out is.message;

@@ -3,13 +3,13 @@ use Rattle.std.specs.Prelude.{◌≡◌, ℕ, false, List, [], ◌∷◌, map, O
 use Rattle.cel_reader.specs.Tree.{Tree}
 use Rattle.cel_macros.specs.Environment.{Roots}
 use Rattle.wide_reader.specs.Tree.{Wide}
-use Rattle.wide_kinds.specs.declared.kind.Kind.{Kind, TheVariants.Value}
+use Rattle.wide_kinds.specs.declared.kind.Kind.{TheVariants.Value}
 use Rattle.wide_kinds.specs.declared.kind.ValueKind.{ValueKind}
 use Rattle.wide_meaning.specs.Environment.{WideEnvironment}
 use Rattle.wide_meaning.specs.Outcome.{Outcome}
 use Rattle.wide_translation.specs.Placed.{WideStep, AreTranslated, kind_of}
 use Rattle.wide_translation.specs.Results.{WideMeans}
-use Rattle.wide_translation.specs.Scope.{scope_of}
+use Rattle.wide_translation.specs.Scope.{WideScope, scope_of, condition_scope}
 use Rattle.policy_glue.specs.Evaluation.{decision_of}
 use Rattle.policy_glue.specs.Trees.{VariableTree, ValidationTree, PolicyTree}
 use Rattle.policy_glue.specs.declared.failure_policy.FailurePolicy.{FailurePolicy}
@@ -22,21 +22,21 @@ EachPair P [] [] = Unit {0}
 EachPair P (a ∷ more) (b ∷ others) = P a b × EachPair P more others
 EachPair P _ _ = ⊥
 
--- with these variables the tree has the value of the expression, which is no optional value
-pub record CarriesValue (variables : List (List ℕ × Kind)) (e : Wide) (a : Tree) : Type 0 where
+-- in this scope the tree has the value of the expression, which is no optional value
+pub record CarriesValue (s : WideScope) (e : Wide) (a : Tree) : Type 0 where
   pub kind : ValueKind
-  pub means : WideMeans (scope_of false variables) e (Value kind) a
+  pub means : WideMeans s e (Value kind) a
 
 -- a message expression, if there is one
-abbrev pub CarriesMessage : List (List ℕ × Kind) → Option Wide → Option Tree → Type 0
-CarriesMessage variables (Some e) (Some a) = CarriesValue variables e a
-CarriesMessage variables None None = Unit {0}
-CarriesMessage variables _ _ = ⊥
+abbrev pub CarriesMessage : WideScope → Option Wide → Option Tree → Type 0
+CarriesMessage s (Some e) (Some a) = CarriesValue s e a
+CarriesMessage s None None = Unit {0}
+CarriesMessage s _ _ = ⊥
 
 -- a validation
-pub record CarriesValidation (variables : List (List ℕ × Kind)) (r : WideValidationTree) (s : ValidationTree) : Type 0 where
-  pub expression : CarriesValue variables r.expression s.expression
-  pub message : CarriesMessage variables r.message s.message
+pub record CarriesValidation (s : WideScope) (r : WideValidationTree) (t : ValidationTree) : Type 0 where
+  pub expression : CarriesValue s r.expression t.expression
+  pub message : CarriesMessage s r.message t.message
 
 -- a variable that is translated: its wide tree, and its tree in the profile
 abbrev pub wide_variable : WideStep → WideVariableTree
@@ -51,8 +51,8 @@ pub record CarriesPolicy (w : WidePolicyTree) (t : PolicyTree) : Type 0 where
   pub are_translated : AreTranslated false [] steps
   pub wide_are : w.variables ≡ map wide_variable steps
   pub trees_are : t.variables ≡ map profile_variable steps
-  pub conditions : EachPair (CarriesValue []) w.conditions t.conditions
-  pub validations : EachPair (CarriesValidation (map kind_of steps)) w.validations t.validations
+  pub conditions : EachPair (CarriesValue (condition_scope false)) w.conditions t.conditions
+  pub validations : EachPair (CarriesValidation (scope_of false (map kind_of steps))) w.validations t.validations
 
 -- a policy whose expressions carry the values of another's decides as the other does, on any roots, whatever the calls
 -- mean that `wide_meaning` leaves open

@@ -38,13 +38,14 @@ in_part part place e = InvalidExpression part place e
 
 -- ---- codes
 
--- the code of an expression that has no translation: W2 for an unsigned int, W4 for an optional value, W5 for a name or
--- a form that is not supported
+-- the code of an expression that has no translation: W2 for an unsigned int, W4 for an optional value, W6 for an optional
+-- entry of a map, W5 for a name or a form that is not supported
 abbrev pub translation_code : TranslationError → List ℕ
 translation_code (translation_error.UnknownName n) = codes "W5"
 translation_code translation_error.OptionalValue = codes "W4"
 translation_code (translation_error.TakenName n) = codes "W5"
 translation_code translation_error.UnsignedInt = codes "W2"
+translation_code translation_error.OptionalEntry = codes "W6"
 translation_code translation_error.Unsupported = codes "W5"
 translation_code translation_error.Memory = codes "memory"
 

@@ -25,11 +25,11 @@ use Rattle.wide_policy.specs.declared.wide_policy_error.WidePolicyError.TheVaria
 
 -- ---- one expression
 
--- the expression of the text, and its translation; or why it has none, as a part of any kind
-abbrev pub ReturnsTranslation : List (List ℕ × Kind) → List ℕ → Result Translated WideExpressionError → Type 0
-ReturnsTranslation variables text (Ok t) =
-    (x : TakenExpression) × IsTranslated variables text x × (x.kind ≡ t.kind) × (x.tree ≡ view t.expression)
-ReturnsTranslation variables text (Err e) = e ≢ expression_error.Memory → (p : PartKind) → IsRefusedPart p variables text e
+-- the expression of the text, and its translation; or why it has none
+abbrev pub ReturnsTranslation : PartKind → List (List ℕ × Kind) → List ℕ → Result Translated WideExpressionError → Type 0
+ReturnsTranslation p variables text (Ok t) =
+    (x : TakenExpression) × IsTranslated p variables text x × (x.kind ≡ t.kind) × (x.tree ≡ view t.expression)
+ReturnsTranslation p variables text (Err e) = e ≢ expression_error.Memory → IsRefusedPart p variables text e
 
 -- the kind and the text of a part's translation
 pub record IsPartTakenAs (p : PartKind) (variables : List (List ℕ × Kind)) (source : List ℕ) (kind : Kind) (text : List ℕ) : Type 0 where

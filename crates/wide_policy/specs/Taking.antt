@@ -13,7 +13,7 @@ use Rattle.wide_kinds.specs.declared.kind.Kind.{Kind, TheVariants.Value, TheVari
 use Rattle.wide_translation.specs.Carried as carried
 use Rattle.wide_translation.specs.Declarations.{IsTranslatedTo, fault_of, is_memory}
 use Rattle.wide_translation.specs.Placed.{WideStep, kind_of}
-use Rattle.wide_translation.specs.Scope.{scope_of}
+use Rattle.wide_translation.specs.Scope.{WideScope, scope_of, condition_scope}
 use Rattle.wide_translation.specs.Translated.{translated}
 use Rattle.wide_translation.specs.declared.translation_error.TranslationError.{TranslationError}
 use Rattle.policy_glue.specs.Policy.{NamedExpression, Validation, Policy}
@@ -35,10 +35,15 @@ pub record TakenExpression : Type 0 where
   pub kind : Kind
   pub tree : Tree
 
--- the text is this expression, and this is its translation; it may use these variables
-pub record IsTranslated (variables : List (List ℕ × Kind)) (text : List ℕ) (x : TakenExpression) : Type 0 where
+-- the scope of a part's expression, which may use these variables; that of a match condition has none
+abbrev pub scope_for : PartKind → List (List ℕ × Kind) → WideScope
+scope_for Condition variables = condition_scope false
+scope_for p variables = scope_of false variables
+
+-- the text is this expression, and this is its translation, as a part that may use these variables
+pub record IsTranslated (p : PartKind) (variables : List (List ℕ × Kind)) (text : List ℕ) (x : TakenExpression) : Type 0 where
   pub reads : IsWide text x.wide
-  pub translation : IsTranslatedTo (translated (scope_of false variables) x.wide) x.kind x.tree
+  pub translation : IsTranslatedTo (translated (scope_for p variables) x.wide) x.kind x.tree
 
 -- whether the expression of this part may be of this kind: that of a variable may be an optional value
 abbrev pub fits : PartKind → Kind → Bool
@@ -48,7 +53,7 @@ fits p (Optional k) = false
 
 -- the expression of the part is taken: its translation can be written
 pub record IsTakenPart (p : PartKind) (variables : List (List ℕ × Kind)) (text : List ℕ) (x : TakenExpression) : Type 0 where
-  pub is : IsTranslated variables text x
+  pub is : IsTranslated p variables text x
   pub fit : fits p x.kind ≡ true
   pub written : IsReadBack x.tree
 
@@ -58,17 +63,17 @@ IsUnreadWide text (Text read_error.Memory) = ⊥
 IsUnreadWide text e = WideReadReturns text (Err e)
 
 -- the text is an expression that has no translation
-abbrev pub IsUntranslated : List (List ℕ × Kind) → List ℕ → TranslationError → Type 0
-IsUntranslated variables text e =
-    (is_memory e ≡ false) × (w : Wide) × IsWide text w × (translated (scope_of false variables) w ≡ carried.refused (fault_of e))
+abbrev pub IsUntranslated : PartKind → List (List ℕ × Kind) → List ℕ → TranslationError → Type 0
+IsUntranslated p variables text e =
+    (is_memory e ≡ false) × (w : Wide) × IsWide text w × (translated (scope_for p variables) w ≡ carried.refused (fault_of e))
 
 -- why the expression of a part is refused
 abbrev pub IsRefusedPart : PartKind → List (List ℕ × Kind) → List ℕ → WideExpressionError → Type 0
 IsRefusedPart p variables text (Unread e) = IsUnreadWide text e
-IsRefusedPart p variables text (Untranslated e) = IsUntranslated variables text e
-IsRefusedPart p variables text OptionalResult = (x : TakenExpression) × IsTranslated variables text x × (fits p x.kind ≡ false)
+IsRefusedPart p variables text (Untranslated e) = IsUntranslated p variables text e
+IsRefusedPart p variables text OptionalResult = (x : TakenExpression) × IsTranslated p variables text x × (fits p x.kind ≡ false)
 IsRefusedPart p variables text Unwritten =
-    (x : TakenExpression) × IsTranslated variables text x × (fits p x.kind ≡ true) × (IsReadBack x.tree → ⊥)
+    (x : TakenExpression) × IsTranslated p variables text x × (fits p x.kind ≡ true) × (IsReadBack x.tree → ⊥)
 IsRefusedPart p variables text Memory = ⊥
 
 -- the part at this place is refused

@@ -6,7 +6,7 @@ use Rattle.wide_reader.specs.Tree.{Wide}
 use Rattle.wide_meaning.specs.Environment.{WideEnvironment}
 use Rattle.wide_meaning.specs.Meaning.{wide_meaning}
 use Rattle.wide_meaning.specs.Outcome.{Outcome, plain_part}
-use Rattle.wide_translation.specs.Placed.{wide_environment}
+use Rattle.wide_translation.specs.Placed.{condition_roots, wide_environment}
 use Rattle.policy_glue.specs.Verdict.{Verdict, verdict_of}
 use Rattle.policy_glue.specs.declared.failure_policy.FailurePolicy.{FailurePolicy}
 use Rattle.wide_policy.specs.WideTrees.{WideVariableTree, WideValidationTree, WidePolicyTree}
@@ -25,9 +25,9 @@ module _ (others : Wide → WideEnvironment → Outcome) where
   abbrev pub wide_values_of : Roots → List WideVariableTree → List (List ℕ × Outcome)
   wide_values_of roots variables = fold (with_wide_value roots) [] variables
 
-  -- the values of the conditions; a condition may use no variable
+  -- the values of the conditions; a condition may use no variable, and has no namespace
   abbrev pub wide_condition_values : Roots → List Wide → List ValueOrError
-  wide_condition_values roots conditions = map (λ (e : Wide). wide_value (wide_environment roots []) e) conditions
+  wide_condition_values roots conditions = map (λ (e : Wide). wide_value (wide_environment (condition_roots roots) []) e) conditions
 
   -- the value of a validation's expression, and of its message expression if it has one
   abbrev pub wide_validation_value : WideEnvironment → WideValidationTree → ValueOrError × Option ValueOrError

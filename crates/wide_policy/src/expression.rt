@@ -2,21 +2,45 @@
 
 ghost use Rattle.std.specs.Prelude.{◌≡◌};
 ghost use Rattle.wide_policy.specs.Returns.{ReturnsExpression, ReturnsPart, ReturnsTranslation};
-ghost use Rattle.wide_policy.specs.Taking.{fits};
+ghost use Rattle.wide_policy.specs.Taking.{fits, scope_for};
+ghost use Rattle.wide_reader.specs.Tree.{view};
+ghost use Rattle.wide_translation.specs.Declarations.{IsTranslation};
+ghost use Rattle.wide_translation.specs.Translated.{translated};
 
 use crate::expression_error::WideExpressionError;
 use crate::wide_policy_error::WidePolicyError;
 use policy_glue::PartKind;
 use std::alloc::Global;
 use wide_kinds::Kind;
-use wide_translation::{Scope, Translated, translate};
+use wide_reader::Wide;
+use wide_translation::{Scope, Translated, TranslationError, translate, translate_condition};
 
-/// Reads the text and translates the expression, which may use the variables of the scope.
-fn translation(alloc: Global, text: &str, scope: &Scope) -> Result<Translated, WideExpressionError>
-    ensures { ReturnsTranslation scope.now text.now result }
+/// The translation of a part's expression, which may use the variables of the scope unless it is a condition.
+fn translated(
+    alloc: Global,
+    part: PartKind,
+    wide: &Wide,
+    scope: &Scope,
+) -> Result<Translated, TranslationError>
+    ensures { IsTranslation (translated (scope_for part scope.now) (view wide.now)) result }
+{
+    match part {
+        PartKind::Condition => translate_condition(alloc, wide, false),
+        _ => translate(alloc, wide, scope, false),
+    }
+}
+
+/// Reads the text and translates the part's expression.
+fn translation(
+    alloc: Global,
+    part: PartKind,
+    text: &str,
+    scope: &Scope,
+) -> Result<Translated, WideExpressionError>
+    ensures { ReturnsTranslation part scope.now text.now result }
 {
     let wide = wide_reader::read(alloc, text)?;
-    Ok(translate(alloc, &wide, scope, false)?)
+    Ok(translated(alloc, part, &wide, scope)?)
 }
 
 /// Whether the expression of this part may be of this kind.
@@ -38,7 +62,7 @@ fn expression(
 ) -> Result<(Kind, String), WideExpressionError>
     ensures { ReturnsExpression part scope.now text.now result }
 {
-    let translated = translation(alloc, text, scope)?;
+    let translated = translation(alloc, part, text, scope)?;
     if fits(part, translated.kind) {
         let text = cel_writer::write(alloc, &translated.expression)?;
         return Ok((translated.kind, text));

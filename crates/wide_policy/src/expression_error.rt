@@ -33,7 +33,7 @@ pub enum WideExpressionError {
 }
 
 impl WideExpressionError {
-    /// The error's code: that of the text (`P1` to `P6`, `M1` to `M3`, `W1` to `W3`), `W2`, `W4` or `W5` of the
+    /// The error's code: that of the text (`P1` to `P6`, `M1` to `M3`, `W1` to `W3`), `W2` or `W4` to `W6` of the
     /// translation, `P6` if the translation cannot be written, or `memory`.
     pub fn code(&self) -> &'static str
         ensures { result.now ≡ wide_error_code self.now }
@@ -76,6 +76,7 @@ fn translation_code(error: &TranslationError) -> &'static str
         TranslationError::OptionalValue => "W4",
         TranslationError::TakenName(_) => "W5",
         TranslationError::UnsignedInt => "W2",
+        TranslationError::OptionalEntry => "W6",
         TranslationError::Unsupported => "W5",
         TranslationError::Memory => "memory",
     }

@@ -4,7 +4,7 @@ ghost use Rattle.wide_policy.specs.Carrying.{CarriedPolicyDecides};
 ghost use Rattle.wide_policy.specs.Laws.{HasOneWidePolicy, WidePoliciesAreTaken, WidePoliciesDecide};
 
 use wide_reader::one_tree;
-use wide_translation::policy_means_the_same;
+use wide_translation::{condition_means_the_same, policy_means_the_same};
 
 /// A policy whose expressions carry the values of a wide policy's decides as that does.
 #[tactic(auto, using(crate::proofs::Deciding::carried_decides))]
@@ -12,6 +12,7 @@ pub fn carried_policy_decides()
     ensures { CarriedPolicyDecides }
 {
     policy_means_the_same();
+    condition_means_the_same();
 }
 
 /// A document holds one policy, or is refused.

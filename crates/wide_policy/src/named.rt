@@ -43,7 +43,7 @@ fn add_variable(
     Ok(())
 }
 
-/// The match conditions with the texts of their translations. They may use no variable.
+/// The match conditions with the texts of their translations. They may use no variable, and `namespaceObject` is null.
 pub(crate) fn conditions(
     alloc: Global,
     named: &[NamedExpression],
