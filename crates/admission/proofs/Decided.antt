@@ -1,6 +1,6 @@
 -- The results of reviews, from the states of the policies' programs.
 use Rattle.std.proofs.Common.{nat_lt}
-use Rattle.admission.proofs.Prelude.{◌≡◌, ℕ, ◌+◌, ◌*◌, ◌≤◌, ◌⊎◌, Bool, true, false, ◌&&◌, List, [], ◌∷◌, ◌++◌, length, Option, Some, Result, Ok, Err, refl, sym, ap, ◌∙◌, subst, arith, inl, inr, if◌then◌else◌, cases_lt, length-map, length_push, Fault as GuestFault, F8, StartIsCanonical, Contents, Roots, StartsAreTables, State, start_state, StatesAreKept, is_running, state_after, Status, Exited, Running, HasValues, TakenOrRefused, PartsEnd, policy_work, decision_of, outcome_of, outcome_word, Compiles, Verdict, Policy, Decides, OutOfBudget, LeavesByExit, PolicyTree, Finding, decided, judged_by, verdict_of, CompileError, FailurePolicy, GatePolicy, Reply, Documents, IsAnswered, IsPolicy, decision, started, values_given, IsGateOn, Exit, Exits, HasExited, IsExit, OfVerdict, IsDecisionOf, Decision, decision_from_verdict, Images, PolicyRun, RunEnds, RunAgrees, exactly, document_given, parts_given, uid_in, RunError, ReviewRefused, NamespaceOrParamsRefused, OutOfSteps, OverLimit, OutOfReads}
+use Rattle.admission.proofs.Prelude.{◌≡◌, ℕ, ◌+◌, ◌*◌, ◌≤◌, ◌⊎◌, Bool, true, false, ◌&&◌, List, [], ◌∷◌, ◌++◌, length, Option, Some, Result, Ok, Err, refl, sym, ap, ◌∙◌, subst, arith, inl, inr, if◌then◌else◌, cases_lt, length-map, length_push, Fault as GuestFault, F8, StartIsCanonical, Contents, Roots, StartsAreTables, State, start_state, StatesAreKept, is_running, state_after, Status, Exited, Running, HasValues, TakenOrRefused, PartsEnd, policy_work, decision_of, outcome_of, outcome_word, Compiles, Verdict, Policy, Decides, OutOfBudget, LeavesByExit, PolicyTree, Finding, decided, judged_by, verdict_of, CompileError, FailurePolicy, GatePolicy, Reply, Documents, IsAnswered, IsPolicy, decision, started, values_given, IsGateOn, Exit, Exits, HasExited, IsExit, OfVerdict, IsDecisionOf, Decision, decision_from_verdict, Images, PolicyRun, PolicyRunEnds, RunAgrees, exactly, document_given, parts_given, uid_in, RunError, ReviewRefused, NamespaceOrParamsRefused, OutOfSteps, OverLimit, OutOfReads}
 use Rattle.bpf_machine.specs.declared.status.Status.TheVariants.{Fault}
 use Rattle.bpf_machine.specs.Reads.{reads_to, IsLimitedStop, LimitedStopsOnce}
 use Rattle.policy_glue.specs.Checking as checking
@@ -10,12 +10,12 @@ use Rattle.policy_glue.specs.Response.{response_of}
 use Rattle.policy_glue.specs.declared.outcome.Outcome.{Outcome}
 use Rattle.admission.specs.Deciding.{answer_of, is_allowed}
 use Rattle.admission.specs.Findings.{AreFindingsOf}
-use Rattle.value_table.specs.ReviewTable.{ReviewTableReturns}
-use Rattle.value_table.specs.declared.review_error.ReviewError.{ReviewError}
-use Rattle.value_table.specs.declared.review_error.ReviewError.TheVariants as review_error
+use Rattle.review_tables.specs.ReviewTable.{ReviewTableReturns}
+use Rattle.review_tables.specs.declared.review_error.ReviewError.{ReviewError}
+use Rattle.review_tables.specs.declared.review_error.ReviewError.TheVariants as review_error
 use Rattle.admission.specs.Reviews.{refusal_at, table_refusal}
 use Rattle.policy_glue.specs.Layout.{IsLayout}
-use Rattle.admission.specs.Standing.{Ending, ending, ending_by, has_stopped, out_of_steps, out_of_reads, steps_taken}
+use Rattle.admission.specs.Standing.{RunEnding, ending, ending_by, has_stopped, out_of_steps, out_of_reads, steps_taken}
 use Rattle.admission.specs.declared.limits.Limits.{Limits}
 use Rattle.admission.proofs.Ends.{below_limit, is_below, is_not_below, not_and, of_and}
 use Rattle.admission.proofs.RootTables.{refused_as}
@@ -140,7 +140,7 @@ module _ (gate : GatePolicy) (d : Documents) (of : IsGateOn d.language d.policy 
     stop : IsLimitedStop first limits.steps limits.reads m
     stop = (laws.once first limits.steps limits.reads m).1 refl
 
-    standing : (due : Verdict → Ending) → ending limits first ≡ due (decision run.case) → RunEnds (exactly gate.image) d limits due
+    standing : (due : Verdict → RunEnding) → ending limits first ≡ due (decision run.case) → PolicyRunEnds (exactly gate.image) d limits due
     standing due is = record { run = run; is_chosen = refl; ends = is }
 
     unended : s.status ≡ Running → nat_lt m limits.steps ≡ false → ExitsSo (Err OutOfSteps)

@@ -1,5 +1,5 @@
 -- A review has one result.
-use Rattle.admission.proofs.Prelude.{◌≡◌, ◌∙◌, ℕ, List, Result, Ok, Err, ap, arith, refl, sym, subst, F8, Roots, start_state, Exited, decision_of, outcome_word, OneImage, HasOneImage, Compiles, Policy, PolicyTree, Verdict, CompileError, Reply, Case, Documents, IsAnswered, IsPolicy, decision, started, values_given, ReviewHasOneResult, RunEnds, RunAgrees, uid_in, Profile, RunError, ReviewRefused, NamespaceOrParamsRefused, OutOfSteps, OverLimit, OutOfReads}
+use Rattle.admission.proofs.Prelude.{◌≡◌, ◌∙◌, ℕ, List, Result, Ok, Err, ap, arith, refl, sym, subst, F8, Roots, start_state, Exited, decision_of, outcome_word, OneImage, HasOneImage, Compiles, Policy, PolicyTree, Verdict, CompileError, Reply, Case, Documents, IsAnswered, IsPolicy, decision, started, values_given, ReviewHasOneResult, PolicyRunEnds, RunAgrees, uid_in, Profile, RunError, ReviewRefused, NamespaceOrParamsRefused, OutOfSteps, OverLimit, OutOfReads}
 use Rattle.std.specs.Prelude.{◌≢◌}
 use Rattle.bpf_machine.specs.declared.status.Status.TheVariants as status
 use Rattle.policy_glue.specs.Findings.{PolicyFinding, findings_of}
@@ -7,7 +7,7 @@ use Rattle.policy_glue.specs.OneAnswer as policy
 use Rattle.admission.specs.Deciding.{HasNoResponse, IsPolicyRefused, answer_of}
 use Rattle.admission.specs.Findings.{AreFindingsOf}
 use Rattle.admission.specs.OneAnswer.{FindingsHaveOneResult}
-use Rattle.admission.specs.Standing.{Ending, begins, ending, has_stopped, out_of_reads, out_of_steps}
+use Rattle.admission.specs.Standing.{RunEnding, begins, ending, has_stopped, out_of_reads, out_of_steps}
 use Rattle.admission.specs.declared.limits.Limits.{Limits}
 use Rattle.admission.specs.declared.policy_refusal.PolicyRefusal.{PolicyRefusal}
 use Rattle.admission.specs.declared.policy_refusal.PolicyRefusal.TheVariants as policy_refusal
@@ -46,7 +46,7 @@ module _ (compiles : policy.CompileHasOneResult) (images : HasOneImage) (d : Doc
   decisions_once c e = let same = cases_once compiles d c e in λ i. decision_of (same.0 i).failure_policy (same.1 i) (same.2 i)
 
   -- the run of the one image has one end
-  ends_once : (due other : Verdict → Ending) (is : RunEnds OneImage d limits due) (also : RunEnds OneImage d limits other) → due (decision also.run.case) ≡ other (decision also.run.case)
+  ends_once : (due other : Verdict → RunEnding) (is : PolicyRunEnds OneImage d limits due) (also : PolicyRunEnds OneImage d limits other) → due (decision also.run.case) ≡ other (decision also.run.case)
   ends_once due other is also =
       let c = is.run.case in
       let e = also.run.case in
@@ -56,7 +56,7 @@ module _ (compiles : policy.CompileHasOneResult) (images : HasOneImage) (d : Doc
       sym (ap due (decisions_once c e)) ∙ sym is.ends ∙ end ∙ also.ends
 
   -- the end that an error shows
-  data Shows : RunError → Ending → Type 0 where
+  data Shows : RunError → RunEnding → Type 0 where
     runs : Shows OutOfSteps out_of_steps
     is_held : Shows OutOfReads out_of_reads
     is_stopped : Shows OverLimit (has_stopped (status.Fault F8))
@@ -65,7 +65,7 @@ module _ (compiles : policy.CompileHasOneResult) (images : HasOneImage) (d : Doc
   data Cause : RunError → Type 0 where
     by_policy : (e : PolicyRefusal) → d.language ≡ Profile → IsPolicyRefused d.policy e → Cause (PolicyRefused e)
     by_values : {e : RunError} → IsPolicy d.language d.policy → values_given d ≡ Err e → Cause e
-    by_run : {e : RunError} {due : Ending} → RunEnds OneImage d limits (λ v. due) → Shows e due → Cause e
+    by_run : {e : RunError} {due : RunEnding} → PolicyRunEnds OneImage d limits (λ v. due) → Shows e due → Cause e
 
   cause_of : (A : Type 0) (e : RunError) → (e ≡ Memory → ⊥) → HasNoResponse d limits e → RunAgrees {A = A} OneImage d limits (Err e) → Cause e
   cause_of A (PolicyRefused e) some why agrees = by_policy e why.0 why.1
@@ -98,7 +98,7 @@ module _ (compiles : policy.CompileHasOneResult) (images : HasOneImage) (d : Doc
   refusals_once (policy_refusal.Uncompiled e) policy_refusal.Memory is also = absurd also
   refusals_once policy_refusal.Memory f is also = absurd is
 
-  shown_once : (e f : RunError) (due other : Ending) → due ≡ other → Shows e due → Shows f other → e ≡ f
+  shown_once : (e f : RunError) (due other : RunEnding) → due ≡ other → Shows e due → Shows f other → e ≡ f
   shown_once _ _ _ _ same runs runs = refl
   shown_once _ _ _ _ same runs is_held = absurd (cc)
   shown_once _ _ _ _ same runs is_stopped = absurd (cc)
@@ -121,12 +121,12 @@ module _ (compiles : policy.CompileHasOneResult) (images : HasOneImage) (d : Doc
   causes_once e f (by_run {due = due} is shown) (by_run {due = other} also told) = shown_once e f due other (ends_once (λ v. due) (λ v. other) is also) shown told
 
   -- a program that has exited has no such cause
-  no_exit : (w : ℕ) (e : RunError) (due : Ending) → has_stopped (Exited w) ≡ due → Shows e due → ⊥
+  no_exit : (w : ℕ) (e : RunError) (due : RunEnding) → has_stopped (Exited w) ≡ due → Shows e due → ⊥
   no_exit w _ _ same runs = absurd (cc)
   no_exit w _ _ same is_held = absurd (cc)
   no_exit w _ _ same is_stopped = absurd (cc)
 
-  exited : (e : RunError) → RunEnds OneImage d limits (λ v. has_stopped (Exited (outcome_word v.outcome))) → Cause e → ⊥
+  exited : (e : RunError) → PolicyRunEnds OneImage d limits (λ v. has_stopped (Exited (outcome_word v.outcome))) → Cause e → ⊥
   exited _ ran (by_policy e profile is) = no_policy e profile is ran.run.case.policy
   exited e ran (by_values p is) = no_values e is ran.run.case
   exited e ran (by_run {due = due} is shown) = no_exit _ e due (ends_once (λ v. has_stopped (Exited (outcome_word v.outcome))) (λ v. due) ran is) shown

@@ -68,7 +68,7 @@ pub use Rattle.admission.specs.Reviews.{is_review, member_or_null, members_in, p
 pub use Rattle.admission.specs.Reviews.{root_refusal, text_or_empty, without}
 pub use Rattle.admission.specs.RootValues.{AreOfRoots, DocumentsHaveValues, GivenHaveValues}
 pub use Rattle.admission.specs.Decisions.{IsDecisionOf, Decision, decision_from_verdict}
-pub use Rattle.admission.specs.Standing.{Images, PolicyRun, RunEnds, RunAgrees, exactly}
+pub use Rattle.admission.specs.Standing.{Images, PolicyRun, PolicyRunEnds, RunAgrees, exactly}
 pub use Rattle.admission.specs.declared.language.Language.{Language}
 pub use Rattle.admission.specs.declared.language.Language.TheVariants.{Profile, Wide}
 pub use Rattle.admission.specs.declared.run_error.RunError.{RunError}

@@ -2,9 +2,9 @@
 use Rattle.admission.proofs.Prelude.{◌≡◌, ℕ, List, Option, Some, None, Result, Ok, Err, inl, inr, ◌⊎◌, refl, ap, ◌∙◌, Contents, start_contents, ReviewRoots, ReturnsDue, accepted, contents_from, contents_given, document_given, documents_from, documents_given, parts_given, RunError}
 use Rattle.serde_json.specs.Data as json
 use Rattle.value_store.specs.Reviews.{root_documents}
-use Rattle.value_table.specs.ReviewTable.{ReviewTableReturns}
-use Rattle.value_table.specs.declared.review_error.ReviewError.{ReviewError}
-use Rattle.value_table.specs.declared.review_error.ReviewError.TheVariants.{InvalidReview, InvalidDocument, RootRefused, ChargeTooLarge, Memory}
+use Rattle.review_tables.specs.ReviewTable.{ReviewTableReturns}
+use Rattle.review_tables.specs.declared.review_error.ReviewError.{ReviewError}
+use Rattle.review_tables.specs.declared.review_error.ReviewError.TheVariants.{InvalidReview, InvalidDocument, RootRefused, ChargeTooLarge, Memory}
 use Rattle.admission.specs.Reviews.{table_refusal}
 use Rattle.admission.specs.declared.run_error.RunError.TheVariants as run_error
 

@@ -1,11 +1,11 @@
 -- The runs of images while a review is answered.
-use Rattle.admission.proofs.Prelude.{Result, Ok, Err, arith, sym, subst, OneImage, Policy, Verdict, Documents, IsSaid, RunEnds, RunAgrees, exactly, RunError, OutOfSteps, OverLimit, OutOfReads}
+use Rattle.admission.proofs.Prelude.{Result, Ok, Err, arith, sym, subst, OneImage, Policy, Verdict, Documents, IsSaid, PolicyRunEnds, RunAgrees, exactly, RunError, OutOfSteps, OverLimit, OutOfReads}
 use Rattle.loader.specs.Contents as loader
 use Rattle.std.proofs.Common.{ℕ}
 use Rattle.std.specs.Prelude.{◌≢◌}
 use Rattle.bpf_machine.specs.Reads.{no_limit}
 use Rattle.admission.specs.Deciding.{IsUnread, Reviews, answer_view}
-use Rattle.admission.specs.Standing.{Ending, steps_alone}
+use Rattle.admission.specs.Standing.{RunEnding, steps_alone}
 use Rattle.admission.specs.declared.reply.Reply.{Reply as CodeReply}
 use Rattle.admission.specs.declared.limits.Limits.{Limits}
 use Rattle.admission.proofs.Said.{said_once}
@@ -16,8 +16,8 @@ not_read_out d n r why is =
     let unread : IsUnread d no_limit = subst (λ (q : Result CodeReply RunError). Reviews d (steps_alone n) (answer_view q)) is why in
     omega (arith, unread.limited)
 
-one_stands : (d : Documents) (limits : Limits) (due : Verdict → Ending) (told p : Policy) (image : loader.Image) → IsSaid d.language d.policy told p → OneImage p image
-    → RunEnds (exactly image) d limits due → RunEnds OneImage d limits due
+one_stands : (d : Documents) (limits : Limits) (due : Verdict → RunEnding) (told p : Policy) (image : loader.Image) → IsSaid d.language d.policy told p → OneImage p image
+    → PolicyRunEnds (exactly image) d limits due → PolicyRunEnds OneImage d limits due
 one_stands d limits due told p image said one stands =
     let policy = stands.run.case.policy in
     let same = (said_once d.language d.policy told p policy.told policy.parsed said policy.is_said).parsed_is in

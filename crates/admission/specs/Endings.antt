@@ -18,14 +18,14 @@ abbrev pub OutOfStepsOnly : Type 0
 OutOfStepsOnly = (s : State) (limits : Limits) → (ending limits s ≡ out_of_steps) ↔ IsAt s limits.reads limits.steps
 
 -- out of reads: it is so after fewer steps, and the next one would read more than the limit allows
-pub record IsHeld (s : State) (limits : Limits) : Type 0 where
+pub record IsHeldByReads (s : State) (limits : Limits) : Type 0 where
   pub place : ℕ
   pub before : place < limits.steps
   pub at : IsAt s limits.reads place
   pub beyond : is_within limits.reads (reads_to (place + 1) s) ≡ false
 
 abbrev pub OutOfReadsOnly : Type 0
-OutOfReadsOnly = (s : State) (limits : Limits) → (ending limits s ≡ out_of_reads) ↔ IsHeld s limits
+OutOfReadsOnly = (s : State) (limits : Limits) → (ending limits s ≡ out_of_reads) ↔ IsHeldByReads s limits
 
 -- stopped: the machine runs before a place within the limits, and there it has this status, and does not run
 pub record IsStoppedBy (s : State) (limits : Limits) (status : Status) : Type 0 where

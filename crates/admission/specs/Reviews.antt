@@ -5,8 +5,8 @@ use Rattle.value_store.specs.Placing.{Contents}
 use Rattle.value_store.specs.Roots.{start_contents}
 use Rattle.value_store.specs.declared.table_error.TableError.{TableError, TheVariants.NotAnObject, TheVariants.NumberOutOfInt64, TheVariants.RootsTooLarge}
 use Rattle.value_store.specs.declared.table_error.TableError.TheVariants as table_error
-use Rattle.value_table.specs.declared.review_error.ReviewError.{ReviewError}
-use Rattle.value_table.specs.declared.review_error.ReviewError.TheVariants as review_error
+use Rattle.review_tables.specs.declared.review_error.ReviewError.{ReviewError}
+use Rattle.review_tables.specs.declared.review_error.ReviewError.TheVariants as review_error
 use Rattle.admission.specs.declared.run_error.RunError.{RunError}
 use Rattle.admission.specs.declared.run_error.RunError.TheVariants.{PolicyRefused, ReviewRefused, NamespaceOrParamsRefused}
 use Rattle.admission.specs.declared.run_error.RunError.TheVariants.{OutOfSteps, OverLimit, OutOfReads, Memory}

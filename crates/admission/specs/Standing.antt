@@ -36,13 +36,13 @@ steps_alone n = record { steps = n; reads = no_limit }
 
 -- how a run within limits ends: the program has stopped with this status, or it still runs, since all its steps were
 -- taken, or since the next helper call would bring what was read above the limit
-pub data Ending : Type 0 where
-  has_stopped : Status → Ending
-  out_of_steps : Ending
-  out_of_reads : Ending
+pub data RunEnding : Type 0 where
+  has_stopped : Status → RunEnding
+  out_of_steps : RunEnding
+  out_of_reads : RunEnding
 
 -- by the last status, and whether a step is left
-abbrev pub ending_by : Status → Bool → Ending
+abbrev pub ending_by : Status → Bool → RunEnding
 ending_by Running true = out_of_reads
 ending_by Running false = out_of_steps
 ending_by (Exited w) left = has_stopped (Exited w)
@@ -53,7 +53,7 @@ abbrev pub steps_taken : Limits → State → ℕ
 steps_taken limits s = limited_place limits.steps limits.reads s
 
 -- the end of that run
-abbrev pub ending : Limits → State → Ending
+abbrev pub ending : Limits → State → RunEnding
 ending limits s = ending_by (state_after (steps_taken limits s) s).status (nat_lt (steps_taken limits s) limits.steps)
 
 -- ---- runs
@@ -69,7 +69,7 @@ abbrev pub begins : {d : Documents} → PolicyRun d → State
 begins run = start_state run.image (started run.case.roots)
 
 -- within these limits the program of a chosen image ends as is due for the policy's decision
-pub record RunEnds (chosen : Images) (d : Documents) (limits : Limits) (due : Verdict → Ending) : Type 0 where
+pub record PolicyRunEnds (chosen : Images) (d : Documents) (limits : Limits) (due : Verdict → RunEnding) : Type 0 where
   pub run : PolicyRun d
   pub is_chosen : chosen run.case.policy.parsed run.image
   pub ends : ending limits (begins run) ≡ due (decision run.case)
@@ -79,11 +79,11 @@ pub record RunEnds (chosen : Images) (d : Documents) (limits : Limits) (due : Ve
 -- within the limit. `OutOfReads`: it still runs with steps left, and the next one would read more than the limit allows.
 -- Of the other errors nothing is stated here.
 abbrev pub RunAgrees : {A : Type 0} → Images → Documents → Limits → Result A RunError → Type 0
-RunAgrees chosen d limits (Ok a) = RunEnds chosen d limits (λ v. has_stopped (Exited (outcome_word v.outcome)))
+RunAgrees chosen d limits (Ok a) = PolicyRunEnds chosen d limits (λ v. has_stopped (Exited (outcome_word v.outcome)))
 RunAgrees chosen d limits (Err (PolicyRefused e)) = Unit {0}
 RunAgrees chosen d limits (Err ReviewRefused) = Unit {0}
 RunAgrees chosen d limits (Err NamespaceOrParamsRefused) = Unit {0}
-RunAgrees chosen d limits (Err OutOfSteps) = RunEnds chosen d limits (λ v. out_of_steps)
-RunAgrees chosen d limits (Err OverLimit) = RunEnds chosen d limits (λ v. has_stopped (Fault F8))
-RunAgrees chosen d limits (Err OutOfReads) = RunEnds chosen d limits (λ v. out_of_reads)
+RunAgrees chosen d limits (Err OutOfSteps) = PolicyRunEnds chosen d limits (λ v. out_of_steps)
+RunAgrees chosen d limits (Err OverLimit) = PolicyRunEnds chosen d limits (λ v. has_stopped (Fault F8))
+RunAgrees chosen d limits (Err OutOfReads) = PolicyRunEnds chosen d limits (λ v. out_of_reads)
 RunAgrees chosen d limits (Err Memory) = Unit {0}

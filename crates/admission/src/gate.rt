@@ -36,6 +36,7 @@ use policy_glue::{
     CompileError, Finding, Outcome, Policy, Rejection, Verdict, compile, conditions_name_namespace,
     findings_left, rejection_left, respond,
 };
+use review_tables::table_of_review;
 use std::alloc::{AllocError, Global};
 use std::marker::Model;
 use value_store::ValueStore;
@@ -138,7 +139,7 @@ impl Gate {
         // The program's run agrees. Only one result meets both clauses, apart from `Memory`.
         ensures runs { (language : Language) (policy : List ℕ) → IsGateOn language policy self.now → RunAgrees (exactly self.now.image) (documents_in language policy review.now namespace.entry params.entry) limits (answer_view result) }
     {
-        let (table, uid) = Table::of_review(self.alloc, review, namespace, params)?;
+        let (table, uid) = table_of_review(self.alloc, review, namespace, params)?;
         self.decide_on(table, uid.as_str(), limits)
     }
 

@@ -4,6 +4,7 @@ ghost use Rattle.value_table.specs.Held.{held_contents};
 ghost use Rattle.admission.specs.Reviews.{contents_given, ReturnsDue};
 
 use crate::run_error::RunError;
+use review_tables::{table_of_review, table_without_review};
 use std::alloc::Global;
 use value_store::ValueStore;
 use value_table::Table;
@@ -29,9 +30,9 @@ pub fn roots(
 {
     match review {
         Some(review) => {
-            let (table, _) = Table::of_review(alloc, review, namespace, params)?;
+            let (table, _) = table_of_review(alloc, review, namespace, params)?;
             Ok(table)
         }
-        None => Ok(Table::without_review(alloc, namespace, params)?),
+        None => Ok(table_without_review(alloc, namespace, params)?),
     }
 }

@@ -5,9 +5,9 @@ ghost use Rattle.admission.specs.Reviews.{refusal_at, table_refusal};
 ghost use Rattle.admission.specs.declared.run_error.RunError.TheVariants as run_error;
 
 use crate::policy_refusal::PolicyRefusal;
+use review_tables::ReviewError;
 use std::alloc::AllocError;
 use thiserror::Error;
-use value_table::ReviewError;
 
 /// Why a review has no response. The policy is checked first, then the form of the review, the
 /// namespace and the params, then the roots. The program runs last.

@@ -24,7 +24,7 @@ steps_rule = record (new_rule (codes "steps")) {
 unfoldable pub reads_rule : Rule
 reads_rule = record (new_rule (codes "reads")) {
   long = Some (codes "reads");
-  defaults = codes "268435456" ∷ [];
+  defaults = codes "16777216" ∷ [];
   parser = Some (parser.Unsigned 0 most_reads);
 }
 

@@ -2,6 +2,7 @@
 
 pub mod Limits
 pub mod Refusals
+pub mod WideTexts
 pub mod Number
 pub mod Arguments
 pub mod GivenFiles

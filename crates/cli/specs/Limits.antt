@@ -15,4 +15,4 @@ most_reads = 2 ^ 62
 
 -- the limit of these bytes if none is given
 abbrev pub default_reads : ℕ
-default_reads = 268435456
+default_reads = 16777216

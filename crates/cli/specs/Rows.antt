@@ -157,5 +157,5 @@ pub record NumberRowsStand : Type 0 where
   pub left_out : number_of None ≡ None
   pub steps_left_out : default_steps ≡ 10000000
   pub most_steps : step_limit ≡ 1000000000
-  pub reads_left_out : default_reads ≡ 268435456
+  pub reads_left_out : default_reads ≡ 16777216
   pub most_read : most_reads ≡ 4611686018427387904

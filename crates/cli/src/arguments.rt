@@ -48,7 +48,7 @@ pub fn reads_argument<'a>(alloc: Global) -> Arg<'a>
     Arg::new(alloc, "reads")
         .long("reads")
         .value_parser(value_parser!(u64).range(0..=MOST_READS as i64))
-        .default_value("268435456")
+        .default_value("16777216")
 }
 
 // the command with the options for a namespace and for params

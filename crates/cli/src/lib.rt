@@ -11,6 +11,7 @@ mod parsing;
 mod refusal;
 pub mod rows;
 mod values;
+mod wide_lines;
 
 pub use arguments::{
     option_argument, reads_argument, required_option_argument, steps_argument, with_documents,
@@ -21,3 +22,4 @@ pub use lines::{LONGEST_LINE, RefusalLine, refusal_line};
 pub use parsing::parse;
 pub use refusal::Refusal;
 pub use values::{name_in, number_in, reads_in, steps_in, text_in, text_or_empty};
+pub use wide_lines::{add_number, add_policy, add_wide, add_wide_cause, wide_line};

@@ -10,4 +10,4 @@ pub(crate) const DEFAULT_STEPS: u64 = 10_000_000;
 pub(crate) const MOST_READS: u64 = 4_611_686_018_427_387_904;
 
 /// The default of `--reads`.
-pub(crate) const DEFAULT_READS: u64 = 268_435_456;
+pub(crate) const DEFAULT_READS: u64 = 16_777_216;

@@ -5,7 +5,7 @@ use Rattle.serde_json.specs.Data as json
 use Rattle.policy_glue.specs.Findings.{PolicyFinding}
 use Rattle.policy_glue.specs.declared.finding.Finding.{Finding}
 use Rattle.value_table.specs.Held.{Held}
-use Rattle.value_table.specs.declared.review_error.ReviewError.{ReviewError}
+use Rattle.review_tables.specs.declared.review_error.ReviewError.{ReviewError}
 use Rattle.admission.specs.Deciding.{Documents, IsGateOn}
 use Rattle.admission.specs.Findings.{FindsReview, findings_view}
 use Rattle.admission.specs.Lent.{documents_in}

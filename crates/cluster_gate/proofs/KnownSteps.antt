@@ -5,7 +5,7 @@ use Rattle.std.specs.Borrow.{Bor}
 use Rattle.std.specs.List.{All}
 use Rattle.std.specs.Prelude.{◌==◌, ◌||◌, if◌then◌else◌}
 use Rattle.serde_json.specs.Data as json
-use Rattle.value_table.specs.DocumentPool.{OpenValues}
+use Rattle.review_tables.specs.DocumentPool.{OpenValues}
 use Rattle.admission_documents.specs.Requests.{is_core_namespace}
 use Rattle.admission_match.specs.Matching.{match_answer}
 use Rattle.admission_match.specs.declared.answer.Answer.{Answer}

@@ -5,15 +5,15 @@ use Rattle.value_store.specs.Documents.{document_given, document_of}
 use Rattle.value_store.specs.Reviews.{parts_given}
 use Rattle.value_store.specs.Roots.{value_of}
 use Rattle.value_store.specs.Value as kind
-use Rattle.value_table.specs.DocumentPool.{IsGiven, IsPooledAfter, IsSoundGiven, OpenValues}
+use Rattle.review_tables.specs.DocumentPool.{IsGiven, IsPooledAfter, IsSoundGiven, OpenValues}
 use Rattle.value_table.specs.Growing.{HasGrown}
 use Rattle.value_table.specs.Held.{Held, held_contents}
-use Rattle.value_table.specs.ReviewTable.{ReviewTableReturns}
-use Rattle.value_table.specs.declared.pooled_document.PooledDocument.{PooledDocument}
-use Rattle.value_table.specs.declared.review_error.ReviewError.{ReviewError}
-use Rattle.value_table.specs.declared.review_error.ReviewError.TheVariants.{InvalidReview, InvalidDocument, RootRefused, ChargeTooLarge, Memory}
+use Rattle.review_tables.specs.ReviewTable.{ReviewTableReturns}
+use Rattle.review_tables.specs.declared.pooled_document.PooledDocument.{PooledDocument}
+use Rattle.review_tables.specs.declared.review_error.ReviewError.{ReviewError}
+use Rattle.review_tables.specs.declared.review_error.ReviewError.TheVariants.{InvalidReview, InvalidDocument, RootRefused, ChargeTooLarge, Memory}
 use Rattle.value_table.proofs.Growing.{grown_none}
-use Rattle.value_table.proofs.PlacedValues.{answers_stay}
+use Rattle.review_tables.proofs.PlacedValues.{answers_stay}
 use Rattle.cluster_gate.specs.Opened.{AreReadHere, IsReadHere, IsReadIf}
 use Rattle.cluster_gate.specs.Tables.{GivesTable, IsPlacedIn, SharesTable}
 use Rattle.cluster_gate.specs.Texts.{IsJsonTextOf, IsJsonTextIf}

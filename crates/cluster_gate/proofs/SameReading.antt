@@ -16,7 +16,7 @@ use Rattle.wide_policy.specs.declared.wide_policy_error.WidePolicyError.TheVaria
 use Rattle.admission.specs.Deciding.{Case, Documents, HasNoResponse, IsPolicy, IsPolicyRefused, IsSaid, IsWideRefused, values_given}
 use Rattle.admission.specs.Findings.{FindsReview}
 use Rattle.admission.specs.Reviews.{contents_from, contents_given, documents_from, documents_given}
-use Rattle.admission.specs.Standing.{Ending, Images, RunAgrees, RunEnds}
+use Rattle.admission.specs.Standing.{RunEnding, Images, RunAgrees, PolicyRunEnds}
 use Rattle.admission.specs.declared.language.Language.{Language, TheVariants.Profile, TheVariants.Wide}
 use Rattle.admission.specs.declared.limits.Limits.{Limits}
 use Rattle.admission.specs.declared.wide_refusal.WideRefusal.{WideRefusal}
@@ -144,7 +144,7 @@ module _ (d e : Documents) (same : SameReading d e) where
   findings_moved limits (Ok found) is = record { case = case_moved is.case; findings_are = is.findings_are }
   findings_moved limits (Err x) is = no_response_moved limits x is
 
-  ends_moved : (chosen : Images) (limits : Limits) (due : Verdict → Ending) → RunEnds chosen d limits due → RunEnds chosen e limits due
+  ends_moved : (chosen : Images) (limits : Limits) (due : Verdict → RunEnding) → PolicyRunEnds chosen d limits due → PolicyRunEnds chosen e limits due
   unfolding case_moved
   ends_moved chosen limits due is = record {
     run = record { case = case_moved is.run.case; image = is.run.image; program = is.run.program };

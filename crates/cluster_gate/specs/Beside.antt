@@ -2,7 +2,7 @@
 use Rattle.std.specs.Prelude.{Option, Some, None, Ok}
 use Rattle.std.specs.Borrow.{Bor}
 use Rattle.serde_json.specs.Data as json
-use Rattle.value_table.specs.DocumentPool.{OpenValues}
+use Rattle.review_tables.specs.DocumentPool.{OpenValues}
 use Rattle.value_table.specs.Held.{Held}
 use Rattle.cluster_plan.specs.Steps as plan
 use Rattle.cluster_plan.specs.Steps.{PlannedStep}

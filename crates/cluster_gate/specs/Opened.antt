@@ -4,8 +4,8 @@ use Rattle.serde_json.specs.Data as json
 use Rattle.serde_json.specs.View.{view}
 use Rattle.value_store.specs.Documents.{document_of}
 use Rattle.value_store.specs.Value as kind
-use Rattle.value_table.specs.DocumentPool.{IsPooled}
-use Rattle.value_table.specs.declared.pooled_document.PooledDocument.{PooledDocument}
+use Rattle.review_tables.specs.DocumentPool.{IsPooled}
+use Rattle.review_tables.specs.declared.pooled_document.PooledDocument.{PooledDocument}
 use Rattle.cluster_gate.specs.Texts.{IsJsonTextOf}
 use Rattle.cluster_gate.specs.declared.read_document.ReadDocument.{ReadDocument}
 

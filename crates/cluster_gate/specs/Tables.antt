@@ -3,13 +3,13 @@ use Rattle.std.specs.Prelude.{◌≡◌, ℕ, List, Option, Some, Result, Ok, Er
 use Rattle.serde_json.specs.Data as json
 use Rattle.value_store.specs.Documents.{document_given}
 use Rattle.value_store.specs.Reviews.{parts_given}
-use Rattle.value_table.specs.DocumentPool.{OpenValues}
+use Rattle.review_tables.specs.DocumentPool.{OpenValues}
 use Rattle.value_table.specs.Growing.{HasGrown}
 use Rattle.value_table.specs.Held.{Held, held_contents}
-use Rattle.value_table.specs.ReviewTable.{ReviewTableReturns}
-use Rattle.value_table.specs.declared.pooled_document.PooledDocument.{PooledDocument}
-use Rattle.value_table.specs.declared.review_error.ReviewError.{ReviewError}
-use Rattle.value_table.specs.declared.review_error.ReviewError.TheVariants.{InvalidReview, InvalidDocument, RootRefused, ChargeTooLarge, Memory}
+use Rattle.review_tables.specs.ReviewTable.{ReviewTableReturns}
+use Rattle.review_tables.specs.declared.pooled_document.PooledDocument.{PooledDocument}
+use Rattle.review_tables.specs.declared.review_error.ReviewError.{ReviewError}
+use Rattle.review_tables.specs.declared.review_error.ReviewError.TheVariants.{InvalidReview, InvalidDocument, RootRefused, ChargeTooLarge, Memory}
 use Rattle.admission.specs.Deciding.{Documents}
 use Rattle.cluster_gate.specs.Opened.{IsReadIf}
 use Rattle.cluster_gate.specs.Texts.{IsJsonTextIf}

@@ -1,8 +1,8 @@
 //! Documents that are read before a review.
 
 use crate::read_document::ReadDocument;
+use review_tables::DocumentPool;
 use std::marker::Model;
-use value_table::DocumentPool;
 
 /// Documents of the state that are read before the reviews that are to share them.
 #[derive(Drop)]

@@ -6,10 +6,10 @@ use crate::base::Base;
 use crate::opened_review::OpenedReview;
 use crate::read_document::{ReadDocument, name_of};
 use crate::texts::text_of;
+use review_tables::{DocumentPool, ReviewError};
 use serde_json::Value;
 use std::alloc::{AllocError, Global};
 use std::cell::Cell;
-use value_table::{DocumentPool, ReviewError};
 
 /// The length that is counted for a base itself, in addition to the texts that were read.
 const BASE_LENGTH: usize = 1024;

@@ -18,9 +18,10 @@ use crate::case::Case;
 use crate::texts::text_if;
 use admission::{Finding, Gate, RunError};
 use cluster_response::ClusterRefusal;
+use review_tables::{ReviewError, table_of_review};
 use serde_json::Value;
 use std::alloc::{AllocError, Global};
-use value_table::{ReviewError, Table};
+use value_table::Table;
 
 /// What the gate's policy finds against the request with these params and this namespace, each null
 /// if there is none, or why it does not decide.
@@ -111,7 +112,7 @@ fn findings_with(
     ensures runs { (l : Language) (policy : List ℕ) → IsGateOn l policy gate.now → OneImage gate.now.policy gate.now.image
         → RunAgrees OneImage (documents_in l policy case.now.review.now namespace.entry params.entry) case.now.limits (findings_view result) }
 {
-    let (table, _uid) = Table::of_review(alloc, case.review, namespace, params)?;
+    let (table, _uid) = table_of_review(alloc, case.review, namespace, params)?;
     gate.findings_on(table, case.limits)
 }
 

@@ -2,12 +2,12 @@
 
 use crate::base::Base;
 use cluster_state::State;
+use review_tables::DocumentPool;
 use serde_json::Value;
 use std::alloc::{AllocError, Global};
 use std::cell::Cell;
 use std::collections::BTreeMap;
 use std::rc::Rc;
-use value_table::DocumentPool;
 
 /// The largest length in bytes of the texts of all documents that stay read.
 const KEPT_LENGTH: usize = 1_048_576;

@@ -1,6 +1,7 @@
 //! Where a request's namespace is beside its review.
 
-use value_table::{PooledDocument, Table};
+use review_tables::PooledDocument;
+use value_table::Table;
 
 /// Where a request's namespace is beside its review.
 #[derive(Drop)]

@@ -1,10 +1,10 @@
 //! Reviews that are read once for all evaluations.
 
 use crate::read_document::ReadDocument;
+use review_tables::OpenReview;
 use serde_json::Value;
 use std::cell::Cell;
 use std::marker::Model;
-use value_table::OpenReview;
 
 /// The review of a line, and documents of the state that are read beside it. Each evaluation has a
 /// table that shares their values.
@@ -18,7 +18,7 @@ pub(crate) struct OpenedReview<'a, 'r> {
 
 impl<'a, 'r> Model for OpenedReview<'a, 'r> {
     ghost use Rattle.std.specs.Coded.{codes};
-    ghost use Rattle.value_table.specs.DocumentPool.{OpenValues, coded_value};
+    ghost use Rattle.review_tables.specs.DocumentPool.{OpenValues, coded_value};
     ghost use Rattle.cluster_gate.specs.Opened.{AreReadHere};
 
     ghost Value = { OpenValues };

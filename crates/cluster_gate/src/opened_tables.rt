@@ -13,11 +13,12 @@ use crate::opened_review::OpenedReview;
 use crate::read_document::{ReadDocument, name_of};
 use crate::same::is_same;
 use crate::texts::text_of;
+use review_tables::{OpenReview, PooledDocument, ReviewError};
 use serde_json::Value;
 use std::alloc::Global;
 use std::cell::Cell;
 use value_store::ValueStore;
-use value_table::{OpenReview, PooledDocument, ReviewError, Table};
+use value_table::Table;
 
 /// The largest length in bytes of a document that is kept for later reviews.
 const WANTED_LENGTH: usize = 65_536;
@@ -29,7 +30,7 @@ impl<'a> OpenedReview<'a, '_> {
     ///
     /// # Errors
     ///
-    /// Those of `Table::of_review`. `InvalidReview` and `InvalidDocument` imply nothing.
+    /// Those of `table_of_review`. `InvalidReview` and `InvalidDocument` imply nothing.
     pub(crate) fn table_by(
         &self,
         alloc: Global,

@@ -1,7 +1,7 @@
 //! Documents of the state that are read beside a review.
 
+use review_tables::PooledDocument;
 use serde_json::Value;
-use value_table::PooledDocument;
 
 /// A document of the state, and where its value is beside a review.
 #[derive(Clone, Copy, Debug, Drop)]

@@ -11,4 +11,5 @@ pub mod Gates
 pub mod Commands
 pub mod Words
 pub mod Gatekeeper
+pub mod Translations
 pub mod Status

@@ -3,7 +3,8 @@ use Rattle.std.specs.Prelude.{◌≡◌, true, false, ℕ, List, [], ◌∷◌, 
 use Rattle.clap.specs.Words.{Text}
 use Rattle.host.specs.declared.order_error.OrderError.TheVariants.{InvalidArguments}
 use Rattle.gatekeeper_runner.specs.About.{text_asked}
-use Rattle.gatekeeper_runner.specs.Orders.{by_cluster, by_policies, entered, faults, has_status, is_partial, is_profile, is_verbose, leaves_messages, order_from}
+use Rattle.gatekeeper_runner.specs.Orders.{by_cluster, by_policies, by_translation, entered, faults, has_status, is_partial, is_profile}
+use Rattle.gatekeeper_runner.specs.Orders.{is_verbose, leaves_messages, order_from, order_of_words}
 use Rattle.wide_policy.specs.declared.message_rule.MessageRule.TheVariants.{Required, LeftOut}
 use Rattle.admission.specs.declared.language.Language.TheVariants.{Profile, Wide}
 use Rattle.admission.specs.declared.limits.Limits.{Limits}
@@ -15,6 +16,10 @@ under_policy = codes "gatekeeper" ∷ codes "--policy" ∷ codes "a.json" ∷ []
 -- gatekeeper --cluster c.json
 abbrev pub as_cluster : List Text
 as_cluster = codes "gatekeeper" ∷ codes "--cluster" ∷ codes "c.json" ∷ []
+
+-- gatekeeper --translate a.json
+abbrev pub translating : List Text
+translating = codes "gatekeeper" ∷ codes "--translate" ∷ codes "a.json" ∷ []
 
 -- gatekeeper --policy a.json --max-line N
 abbrev pub with_line : Text → List Text
@@ -30,9 +35,9 @@ limited steps reads = record { steps = steps; reads = reads }
 
 -- the limits of a policy's program if none are given
 abbrev pub by_default : Limits
-by_default = limited 10000000 268435456
+by_default = limited 10000000 16777216
 
--- what command lines ask for: 10,000,000 steps, 268,435,456 bytes read and lines of 16 MiB by default
+-- what command lines ask for: 10,000,000 steps, 16,777,216 bytes read and lines of 16 MiB by default
 pub record CommandOrdersHold : Type 0 where
   pub policy : order_from (entered under_policy)
       ≡ by_policies (record {
@@ -53,7 +58,7 @@ pub record CommandOrdersHold : Type 0 where
         language = Wide Required;
         namespace = Some (codes "n.json");
         params = None;
-        limits = limited 5 268435456;
+        limits = limited 5 16777216;
         max_line = 16777216;
         verbose = false;
         status = false;
@@ -174,6 +179,17 @@ pub record CommandOrdersHold : Type 0 where
         status = false;
       })
 
+-- the same of command lines that name a translation
+pub record TranslationOrdersHold : Type 0 where
+  pub translate : order_of_words translating ≡ by_translation (record { file = codes "a.json"; rule = Required })
+  pub value : order_of_words (codes "gatekeeper" ∷ codes "--translate=b.json" ∷ [])
+      ≡ by_translation (record { file = codes "b.json"; rule = Required })
+  pub leaving : order_of_words (codes "gatekeeper" ∷ codes "--leave-messages" ∷ codes "--translate" ∷ codes "a.json" ∷ [])
+      ≡ by_translation (record { file = codes "a.json"; rule = LeftOut })
+  pub other_words : order_of_words under_policy ≡ order_from (entered under_policy)
+  pub program_name : order_of_words (codes "--translate" ∷ codes "--policy" ∷ codes "a.json" ∷ [])
+      ≡ order_from (entered (codes "--translate" ∷ codes "--policy" ∷ codes "a.json" ∷ []))
+
 -- words that go together, and others
 pub record FaultRowsHold : Type 0 where
   pub policy_taken : faults under_policy ≡ []
@@ -204,6 +220,20 @@ pub record FaultRowsHold : Type 0 where
   pub leave_messages_policy : faults (under_policy ++ codes "--leave-messages" ∷ []) ≡ [] → ⊥
   pub leave_messages_profile : faults (as_cluster ++ codes "--leave-messages" ∷ codes "--profile" ∷ []) ≡ [] → ⊥
   pub keeps_messages : leaves_messages [] ≡ false
+  -- --translate goes with --leave-messages alone, in either order, and with no option at its default
+  pub translate_taken : faults translating ≡ []
+  pub translate_value : faults (codes "gatekeeper" ∷ codes "--translate=a.json" ∷ []) ≡ []
+  pub translate_leaving : faults (translating ++ codes "--leave-messages" ∷ []) ≡ []
+  pub translate_twice : faults (translating ++ codes "--translate" ∷ codes "b.json" ∷ []) ≡ [] → ⊥
+  pub translate_none : faults (codes "gatekeeper" ∷ codes "--translate" ∷ []) ≡ [] → ⊥
+  pub translate_policy : faults (translating ++ codes "--policy" ∷ codes "a.json" ∷ []) ≡ [] → ⊥
+  pub policy_translate : faults (under_policy ++ codes "--translate" ∷ codes "a.json" ∷ []) ≡ [] → ⊥
+  pub translate_cluster : faults (as_cluster ++ codes "--translate=a.json" ∷ []) ≡ [] → ⊥
+  pub translate_profile : faults (translating ++ codes "--profile" ∷ []) ≡ [] → ⊥
+  pub translate_status : faults (translating ++ codes "--status" ∷ []) ≡ [] → ⊥
+  pub translate_steps : faults (translating ++ codes "--steps" ∷ codes "10000000" ∷ []) ≡ [] → ⊥
+  -- a file of this name is none of the words, but a value
+  pub names_translate : faults (codes "gatekeeper" ∷ codes "--policy=--translate" ∷ []) ≡ []
   -- a line may have 1 to 16,777,216 bytes
   pub longest : faults (with_line (codes "16777216")) ≡ []
   pub longer : faults (with_line (codes "16777217")) ≡ [] → ⊥
@@ -221,7 +251,8 @@ abbrev pub usage : Text
 usage =
     codes "usage: gatekeeper --policy F [--policy F ..] [--namespace F] [--params F]\n                  [--profile] [--steps N] [--reads N] [--max-line N]\n                  [--verbose] [--status]\n"
     ++ (codes "       gatekeeper --cluster F [--cluster F ..] [--partial]\n                  [--profile | --leave-messages] [--steps N] [--reads N]\n"
-    ++ (codes "                  [--max-line N] [--verbose] [--status]\n\n"
+    ++ (codes "                  [--max-line N] [--verbose] [--status]\n"
+    ++ (codes "       gatekeeper --translate F [--leave-messages]\n\n"
     ++ (codes "Compiles the policies, and answers each review on standard input, a JSON document\n"
     ++ (codes "a line, with a line on standard output.\n\n"
     ++ (codes "  --policy F     a ValidatingAdmissionPolicy; once or more\n  --namespace F  the namespace of the requests\n"
@@ -229,15 +260,16 @@ usage =
     ++ (codes "  --cluster F    a List of what a cluster holds, as kubectl get -o json prints it;\n                 once or more\n"
     ++ (codes "  --partial      a policy of the cluster that is refused does not end the start;\n"
     ++ (codes "                 the requests that it matches are refused, if none denies them\n"
+    ++ (codes "  --translate F  prints the policy of the file in the language that is compiled\n"
     ++ (codes "  --profile      policies are read in the language that is compiled, as celbpf reads\n"
     ++ (codes "                 them, and not as clusters store them\n"
     ++ (codes "  --leave-messages\n                 a message expression that is refused is left out of its policy\n"
     ++ (codes "  --steps N      the most steps of a policy's program; 10000000 if not given\n"
-    ++ (codes "  --reads N      the most bytes that its helper calls read; 268435456 if not given\n"
+    ++ (codes "  --reads N      the most bytes that its helper calls read; 16777216 if not given\n"
     ++ (codes "  --max-line N   the most bytes of a line; 16777216 if not given\n"
     ++ (codes "  --verbose      tells of each refused line on standard error, with its number\n"
     ++ (codes "  --status       ends with status 1 if an answer is a denial or a refusal\n"
-    ++ codes "  --help         prints this text\n  --version      prints the version\n")))))))))))))))))
+    ++ codes "  --help         prints this text\n  --version      prints the version\n")))))))))))))))))))
 
 -- the first word after the program's name asks for a text
 pub record HelpRowsHold : Type 0 where

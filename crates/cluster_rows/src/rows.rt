@@ -9,7 +9,8 @@ ghost use Rattle.cluster_rows.specs.Responses.{EventAnswerRowsHold};
 ghost use Rattle.cluster_rows.specs.Reviews.{CodeRowsHold, OutcomeRowsHold, RootRowsHold};
 ghost use Rattle.cluster_rows.specs.Selectors.{SelectorOperatorsHold, PrefixRowsHold, ValueRowsHold};
 ghost use Rattle.cluster_rows.specs.State.{ActionRowsHold, DueNameRowsHold, DueRowsHold, ListRowsHold, ParamAnswersHold};
-ghost use Rattle.cluster_rows.specs.Words.{FaultRowsHold, HelpRowsHold, CommandOrdersHold};
+ghost use Rattle.cluster_rows.specs.Translations.{WrittenTranslationsHold};
+ghost use Rattle.cluster_rows.specs.Words.{CommandOrdersHold, FaultRowsHold, HelpRowsHold, TranslationOrdersHold};
 
 /// Characters of keys and values of labels, and an operator without values.
 pub fn selector_rows_stand()
@@ -77,8 +78,14 @@ pub fn command_rows_stand()
 /// Command lines of the gatekeeper with what they ask for, and its help.
 pub fn word_rows_stand()
     ensures orders { CommandOrdersHold }
+    ensures translations { TranslationOrdersHold }
     ensures faults { FaultRowsHold }
     ensures help { HelpRowsHold }
+{}
+
+/// Policies that `gatekeeper --translate` writes.
+pub fn translation_rows_stand()
+    ensures { WrittenTranslationsHold }
 {}
 
 /// What the gatekeeper writes: answers to lines, joined decisions, and lines on a cluster's policies.

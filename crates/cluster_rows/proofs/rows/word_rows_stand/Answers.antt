@@ -2,14 +2,15 @@
 
 use Rattle.std.proofs.Common.{refl}
 use Rattle.clap.proofs.OnLiterals.{clap_on_literals}
-use Rattle.cli.specs.Arguments.{option_rule, reads_rule, steps_rule, with_documents}
+use Rattle.cli.specs.Arguments.{option_rule, reads_rule, required_option_rule, steps_rule, with_documents}
 use Rattle.cli.specs.Number.{number_of}
 use Rattle.gatekeeper_runner.specs.About.{help_text, version_text}
-use Rattle.gatekeeper_runner.specs.Orders.{cluster_from, entered, faults, files_rule, gatekeeper_app, leave_messages_rule, lines_app, max_line_rule, partial_rule, policies_app, policies_from, profile_rule, status_rule, verbose_rule}
+use Rattle.gatekeeper_runner.specs.Orders.{cluster_from, entered, faults, files_rule, gatekeeper_app, is_translate, leave_messages_rule, lines_app, lines_faults, max_line_rule}
+use Rattle.gatekeeper_runner.specs.Orders.{order_of_words, partial_rule, policies_app, policies_from, profile_rule, status_rule, translation_app, translation_from, verbose_rule}
 use Rattle.cluster_rows.proofs.rows.word_rows_stand.Goals as goal
 
 pub returns-clause-orders : goal.returns-clause-orders
-unfolding clap_on_literals gatekeeper_app lines_app policies_app max_line_rule files_rule partial_rule status_rule verbose_rule profile_rule leave_messages_rule with_documents option_rule steps_rule reads_rule entered faults policies_from cluster_from number_of help_text version_text
+unfolding clap_on_literals gatekeeper_app lines_app policies_app max_line_rule files_rule partial_rule status_rule verbose_rule profile_rule leave_messages_rule with_documents option_rule steps_rule reads_rule entered faults lines_faults is_translate order_of_words translation_app translation_from required_option_rule policies_from cluster_from number_of help_text version_text
 returns-clause-orders c = record {
   policy = refl;
   more = refl;
@@ -26,8 +27,12 @@ returns-clause-orders c = record {
   leave_messages = refl;
 }
 
+pub returns-clause-translations : goal.returns-clause-translations
+unfolding clap_on_literals gatekeeper_app lines_app policies_app max_line_rule files_rule partial_rule status_rule verbose_rule profile_rule leave_messages_rule with_documents option_rule steps_rule reads_rule entered faults lines_faults is_translate order_of_words translation_app translation_from required_option_rule policies_from cluster_from number_of help_text version_text
+returns-clause-translations c = record { translate = refl; value = refl; leaving = refl; other_words = refl; program_name = refl }
+
 pub returns-clause-faults : goal.returns-clause-faults
-unfolding clap_on_literals gatekeeper_app lines_app policies_app max_line_rule files_rule partial_rule status_rule verbose_rule profile_rule leave_messages_rule with_documents option_rule steps_rule reads_rule entered faults policies_from cluster_from number_of help_text version_text
+unfolding clap_on_literals gatekeeper_app lines_app policies_app max_line_rule files_rule partial_rule status_rule verbose_rule profile_rule leave_messages_rule with_documents option_rule steps_rule reads_rule entered faults lines_faults is_translate order_of_words translation_app translation_from required_option_rule policies_from cluster_from number_of help_text version_text
 returns-clause-faults c = record {
   policy_taken = refl;
   partial_taken = refl;
@@ -53,6 +58,18 @@ returns-clause-faults c = record {
   leave_messages_policy = λ e. cc;
   leave_messages_profile = λ e. cc;
   keeps_messages = refl;
+  translate_taken = refl;
+  translate_value = refl;
+  translate_leaving = refl;
+  translate_twice = λ e. cc;
+  translate_none = λ e. cc;
+  translate_policy = λ e. cc;
+  policy_translate = λ e. cc;
+  translate_cluster = λ e. cc;
+  translate_profile = λ e. cc;
+  translate_status = λ e. cc;
+  translate_steps = λ e. cc;
+  names_translate = refl;
   longest = refl;
   longer = λ e. cc;
   shortest = refl;
@@ -65,7 +82,7 @@ returns-clause-faults c = record {
 }
 
 pub returns-clause-help : goal.returns-clause-help
-unfolding clap_on_literals gatekeeper_app lines_app policies_app max_line_rule files_rule partial_rule status_rule verbose_rule profile_rule leave_messages_rule with_documents option_rule steps_rule reads_rule entered faults policies_from cluster_from number_of help_text version_text
+unfolding clap_on_literals gatekeeper_app lines_app policies_app max_line_rule files_rule partial_rule status_rule verbose_rule profile_rule leave_messages_rule with_documents option_rule steps_rule reads_rule entered faults lines_faults is_translate order_of_words translation_app translation_from required_option_rule policies_from cluster_from number_of help_text version_text
 returns-clause-help c = record {
   help = refl;
   help_before_others = refl;

@@ -1,7 +1,7 @@
 -- Proof obligations of `base::Base::with_document`.
 use Rattle.value_store.specs.Documents.{document_of}
 use Rattle.value_store.specs.Value as kind
-use Rattle.value_table.specs.DocumentPool.{IsPooledAfter}
+use Rattle.review_tables.specs.DocumentPool.{IsPooledAfter}
 use Rattle.value_table.specs.Growing.{HasGrown}
 use Rattle.cluster_gate.proofs.Places.{all_here, one_more, read_now}
 use Rattle.cluster_gate.proofs.Prelude.{◌∙◌, ◌∷◌, ◌++◌, ℕ, List, [], ap, subst, sym, view}

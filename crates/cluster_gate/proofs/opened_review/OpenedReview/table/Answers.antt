@@ -1,5 +1,5 @@
 -- Proof obligations of `opened_review::OpenedReview::table`.
-use Rattle.value_table.specs.DocumentPool.{OpenValues}
+use Rattle.review_tables.specs.DocumentPool.{OpenValues}
 use Rattle.cluster_gate.proofs.Places.{all_here, if_stays, shares_table, sound_here}
 use Rattle.cluster_gate.proofs.Prelude.{◌∙◌, ℕ, List, ap, option_map, subst, sym, view}
 use Rattle.cluster_gate.specs.Opened.{AreReadHere}

@@ -1,5 +1,5 @@
 -- Proof obligations of `opened_review::OpenedReview::table_at`.
-use Rattle.value_table.specs.DocumentPool.{OpenValues}
+use Rattle.review_tables.specs.DocumentPool.{OpenValues}
 use Rattle.cluster_gate.proofs.Places.{here_stays, place_found, shares_table}
 use Rattle.cluster_gate.proofs.Prelude.{◌∙◌, ℕ, List, Some, ap, option_map, subst, sym, view}
 use Rattle.cluster_gate.specs.Opened.{IsReadHere}
