@@ -10,9 +10,9 @@ use Rattle.std.specs.Prelude.{option_and_then}
 use Rattle.value_store.specs.Documents.{document_given}
 use Rattle.value_store.specs.Placing.{Contents}
 use Rattle.value_store.specs.Reviews.{parts_in}
-use Rattle.value_table.specs.ReviewTable.{ReviewTableReturns}
-use Rattle.value_table.specs.declared.review_error.ReviewError.{ReviewError}
-use Rattle.value_table.specs.declared.review_error.ReviewError.TheVariants as review_error
+use Rattle.review_tables.specs.ReviewTable.{ReviewTableReturns}
+use Rattle.review_tables.specs.declared.review_error.ReviewError.{ReviewError}
+use Rattle.review_tables.specs.declared.review_error.ReviewError.TheVariants as review_error
 use Rattle.admission.specs.Reviews.{table_refusal}
 use Rattle.admission.specs.declared.language.Language.TheVariants.{Profile}
 use Rattle.admission.specs.declared.run_error.RunError.TheVariants.{Memory}

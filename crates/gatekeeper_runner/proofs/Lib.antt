@@ -3,7 +3,9 @@ mod FailFirst
 mod Gates
 mod Tallies
 mod RefusalTexts
+mod TranslationTexts
 mod Opened
+mod Translated
 mod Programs
 mod Shape
 mod SaidOnce

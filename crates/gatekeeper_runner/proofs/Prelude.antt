@@ -33,7 +33,7 @@ pub use Rattle.cli.specs.declared.refusal.Refusal.{Refusal}
 pub use Rattle.cli.specs.Ending.{no_words}
 pub use Rattle.admission.specs.declared.run_error.RunError.{RunError}
 pub use Rattle.admission.specs.declared.run_error.RunError.TheVariants.{Memory}
-unfoldable pub use Rattle.cli.specs.Arguments.{option_rule, reads_rule, steps_rule, with_documents}
+unfoldable pub use Rattle.cli.specs.Arguments.{option_rule, reads_rule, required_option_rule, steps_rule, with_documents}
 pub use Rattle.admission.specs.declared.limits.Limits.{Limits}
 unfoldable pub use Rattle.admission.specs.Reviews.{uid_in}
 pub use Rattle.gatekeeper_runner.specs.Lines.{DecidesLine, answer_text, decides, too_long_text}
@@ -52,6 +52,8 @@ pub use Rattle.gatekeeper_runner.specs.declared.named_gate.NamedGate.{NamedGate}
 pub use Rattle.gatekeeper_runner.specs.declared.order.Order.{Order}
 pub use Rattle.gatekeeper_runner.specs.declared.tally.Tally.{Tally}
 unfoldable pub use Rattle.gatekeeper_runner.specs.Lines.{refusal_text}
-unfoldable pub use Rattle.gatekeeper_runner.specs.Orders.{entered, faults, files_rule, gatekeeper_app, max_line_rule}
+unfoldable pub use Rattle.gatekeeper_runner.specs.Orders.{entered, faults, files_rule, gatekeeper_app, lines_faults, max_line_rule}
+unfoldable pub use Rattle.gatekeeper_runner.specs.Orders.{is_translate, order_of_words, translation_app, translation_from}
+unfoldable pub use Rattle.gatekeeper_runner.specs.TranslationText.{translation_text}
 unfoldable pub use Rattle.gatekeeper_runner.specs.Orders.{leave_messages_rule, lines_app, partial_rule, policies_app, profile_rule, status_rule, verbose_rule}
 pub use Rattle.gatekeeper_runner.specs.declared.start_refusal.StartRefusal.{StartRefusal}

@@ -8,6 +8,7 @@ use Rattle.gatekeeper_runner.specs.ClusterEnding.{TellsStart}
 use Rattle.gatekeeper_runner.specs.ClusterStarting.{no_list}
 use Rattle.gatekeeper_runner.specs.Orders.{GatekeeperOrder, by_policies}
 use Rattle.gatekeeper_runner.specs.Program.{AnswersUnder, GatekeeperEffect, GatekeeperResult, IsNotBegun, IsTaskOf, PerformsTask, ReadsNothing, ServesReviews, TellsText, all, answers, as_cluster, lines, no_lists, no_order, no_policies, not_started, not_taken, nothing, part, serves, telling, tells, tells_part, under_policies}
+use Rattle.gatekeeper_runner.specs.Program.{is_translated, no_translation, not_translated, translates}
 use Rattle.gatekeeper_runner.specs.Starting.{GatekeeperStarts}
 use Rattle.gatekeeper_runner.specs.Together.{Gatekeeper, gatekeeper_of}
 use Rattle.gatekeeper_runner.specs.declared.gatekeeper.Gatekeeper.{Gatekeeper as CodeGatekeeper}
@@ -61,6 +62,7 @@ module _ (given : Given) (old new : System) (e e_after : Stream) (status : ℕ) 
   })
   performed (task.Policies keeper reports) files is does = answered keeper reports.verbose reports.status files is does
   performed (task.Cluster t) files is does = as_cluster is.0 is.1 files (does old.files is.2)
+  performed (task.Translation t) files is does = translates is.1 is.2 files does.0 (is_translated is.3 does.1)
 
   -- no task is begun
   pub not_begun : (r : StartRefusal) → text_asked given ≡ None → IsNotBegun given old.files r → new ≡ old → TellsStart e e_after status r
@@ -72,3 +74,5 @@ module _ (given : Given) (old new : System) (e e_after : Stream) (status : ℕ) 
   not_begun r none (no_policies {r = Cluster fault} asked starts) same said = not_taken none asked starts same said
   not_begun r none (no_lists asked why) same said =
       as_cluster none asked (λ i. (same i).files) (cluster.not_started (no_list why) (λ i. (same i).input) (λ i. (same i).output) said)
+  not_begun r none (no_translation asked why) same said =
+      translates none asked (λ i. (same i).files) (λ i. (same i).input) (not_translated why (λ i. (same i).output) said)

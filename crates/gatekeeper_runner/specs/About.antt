@@ -13,6 +13,7 @@ help_text =
     ++ (codes "       gatekeeper --cluster F [--cluster F ..] [--partial]\n"
     ++ (codes "                  [--profile | --leave-messages] [--steps N] [--reads N]\n"
     ++ (codes "                  [--max-line N] [--verbose] [--status]\n"
+    ++ (codes "       gatekeeper --translate F [--leave-messages]\n"
     ++ (codes "\n"
     ++ (codes "Compiles the policies, and answers each review on standard input, a JSON document\n"
     ++ (codes "a line, with a line on standard output.\n"
@@ -24,17 +25,18 @@ help_text =
     ++ (codes "                 once or more\n"
     ++ (codes "  --partial      a policy of the cluster that is refused does not end the start;\n"
     ++ (codes "                 the requests that it matches are refused, if none denies them\n"
+    ++ (codes "  --translate F  prints the policy of the file in the language that is compiled\n"
     ++ (codes "  --profile      policies are read in the language that is compiled, as celbpf reads\n"
     ++ (codes "                 them, and not as clusters store them\n"
     ++ (codes "  --leave-messages\n"
     ++ (codes "                 a message expression that is refused is left out of its policy\n"
     ++ (codes "  --steps N      the most steps of a policy's program; 10000000 if not given\n"
-    ++ (codes "  --reads N      the most bytes that its helper calls read; 268435456 if not given\n"
+    ++ (codes "  --reads N      the most bytes that its helper calls read; 16777216 if not given\n"
     ++ (codes "  --max-line N   the most bytes of a line; 16777216 if not given\n"
     ++ (codes "  --verbose      tells of each refused line on standard error, with its number\n"
     ++ (codes "  --status       ends with status 1 if an answer is a denial or a refusal\n"
     ++ (codes "  --help         prints this text\n"
-    ++ codes "  --version      prints the version\n"))))))))))))))))))))))))))
+    ++ codes "  --version      prints the version\n"))))))))))))))))))))))))))))
 
 -- the text for `--version`
 unfoldable pub version_text : Text

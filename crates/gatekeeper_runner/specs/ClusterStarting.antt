@@ -8,6 +8,7 @@ use Rattle.clap.specs.Words.{Text}
 use Rattle.host.specs.FileSystem.{FileSystem, IsReading}
 use Rattle.host.specs.declared.file_error.FileError.{FileError}
 use Rattle.cli.specs.Refusals.{file_refusal, policy_text}
+use Rattle.cli.specs.WideTexts.{wide_text}
 use Rattle.cli.specs.declared.refusal.Refusal.TheVariants.{Memory}
 use Rattle.value_store.specs.Documents.{document_of}
 use Rattle.cluster_state.specs.Refusals.{IsDueRefusal, not_a_list}
@@ -26,7 +27,6 @@ use Rattle.admission.specs.declared.limits.Limits.{Limits}
 use Rattle.admission.specs.declared.wide_refusal.WideRefusal.{WideRefusal}
 use Rattle.admission.specs.declared.wide_refusal.WideRefusal.TheVariants as wide_refusal
 use Rattle.gatekeeper_runner.specs.Orders.{ClusterOrder}
-use Rattle.gatekeeper_runner.specs.WideTexts.{wide_text}
 use Rattle.gatekeeper_runner.specs.declared.cluster_fault.ClusterFault.{ClusterFault, TheVariants.NoList, TheVariants.NoState, TheVariants.Blocked, TheVariants.Untaken}
 use Rattle.gatekeeper_runner.specs.declared.start_refusal.StartRefusal.{StartRefusal, TheVariants.Plain, TheVariants.Cluster}
 

@@ -14,7 +14,7 @@ use Rattle.cluster_gate.specs.Gates.{IsJudged, LeavesOutMessages}
 use Rattle.cluster_gate.specs.declared.block_cause.BlockCause.{BlockCause}
 use Rattle.cluster_gate.specs.declared.standing.Standing.{Standing, TheVariants.Asked, TheVariants.Blocked}
 use Rattle.gatekeeper_runner.specs.ClusterStarting.{cause_code, cause_text}
-use Rattle.gatekeeper_runner.specs.WideTexts.{wide_cause_text}
+use Rattle.cli.specs.WideTexts.{wide_cause_text}
 
 -- names, each after a space
 abbrev pub spaced : List (List ℕ) → List ℕ

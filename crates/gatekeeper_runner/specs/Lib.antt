@@ -9,11 +9,13 @@ pub mod AnsweredLines
 pub mod Orders
 pub mod Starting
 pub mod About
-pub mod WideTexts
 pub mod ClusterStarting
 pub mod ClusterTelling
 pub mod Counts
 pub mod ClusterLines
 pub mod ClusterEnding
+pub mod TranslationText
+pub mod TranslationTokens
+pub mod Translating
 pub mod Program
 pub mod SameAnswers

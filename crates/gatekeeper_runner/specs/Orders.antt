@@ -1,5 +1,7 @@
 -- What the command line asks for.
-use Rattle.std.specs.Prelude.{◌≡◌, ℕ, Bool, false, not, ◌&&◌, List, [], ◌∷◌, ◌++◌, map, Option, Some, is_some, option_map, Result, codes, string_bytes, unwrap_or, if◌then◌else◌}
+use Rattle.std.specs.Prelude.{◌≡◌, ℕ, Bool, false, not, ◌&&◌, ◌||◌, nat_eq, List, [], ◌∷◌}
+use Rattle.std.specs.Prelude.{◌++◌, map, Option, Some, is_some, option_map, Result, codes, string_bytes, unwrap_or, if◌then◌else◌}
+use Rattle.std.specs.List.{list_any, starts_with}
 use Rattle.std.specs.Option.{option_map_or}
 use Rattle.std.specs.Str.{bytes_eq}
 use Rattle.clap.specs.Words.{App, Kinds, Row, Rule, Text, fault_of, first_of, matches_of, new_app, new_rule, one_of, with_rule}
@@ -7,18 +9,19 @@ use Rattle.clap.specs.Walk.{all_of}
 use Rattle.clap.specs.declared.builder.action.ArgAction.TheVariants as arg_action
 use Rattle.clap.specs.declared.builder.value_parser.ValueParser.TheVariants as parser
 use Rattle.clap.specs.declared.error.kind.ErrorKind.TheVariants.{ArgumentConflict}
-use Rattle.cli.specs.Arguments.{option_rule, reads_rule, steps_rule, with_documents}
+use Rattle.cli.specs.Arguments.{option_rule, reads_rule, required_option_rule, steps_rule, with_documents}
 use Rattle.cli.specs.Number.{number_of}
 use Rattle.cli.specs.Parsing.{TakesWords}
 use Rattle.cli.specs.Limits.{default_reads, default_steps}
 use Rattle.host.specs.declared.order_error.OrderError.{OrderError}
-use Rattle.wide_policy.specs.declared.message_rule.MessageRule.TheVariants.{Required, LeftOut}
+use Rattle.wide_policy.specs.declared.message_rule.MessageRule.{MessageRule, TheVariants.Required, TheVariants.LeftOut}
 use Rattle.admission.specs.declared.language.Language.{Language, TheVariants.Profile, TheVariants.Wide}
 use Rattle.admission.specs.declared.limits.Limits.{Limits}
 use Rattle.gatekeeper_runner.specs.declared.cluster_order.ClusterOrder.{ClusterOrder as CodeClusterOrder}
 use Rattle.gatekeeper_runner.specs.declared.order.Order.{Order as CodeOrder}
 use Rattle.gatekeeper_runner.specs.declared.order.Order.TheVariants as code
 use Rattle.gatekeeper_runner.specs.declared.policy_order.PolicyOrder.{PolicyOrder as CodePolicyOrder}
+use Rattle.gatekeeper_runner.specs.declared.translation_order.TranslationOrder.{TranslationOrder as CodeTranslationOrder}
 
 -- an option with a file's name, once or more
 unfoldable pub files_rule : Text → Rule
@@ -71,6 +74,11 @@ lines_app =
 unfoldable pub gatekeeper_app : App
 gatekeeper_app = with_rule (with_rule lines_app profile_rule) leave_messages_rule
 
+-- what is asked of a translation: --translate F [--leave-messages]
+unfoldable pub translation_app : App
+translation_app =
+    with_rule (with_rule (new_app (codes "gatekeeper")) (required_option_rule (codes "translate"))) leave_messages_rule
+
 -- ---- words that go together
 
 -- an option was given
@@ -114,9 +122,22 @@ choice_faults rows = if go_together rows then [] else ArgumentConflict ∷ []
 unfoldable pub entered : List Text → List Row
 entered words = matches_of gatekeeper_app words
 
+-- the reasons to refuse words that do not ask for a translation
+unfoldable pub lines_faults : List Text → Kinds
+lines_faults words = fault_of gatekeeper_app words ++ choice_faults (entered words)
+
+-- the word is --translate, or that with a value
+unfoldable pub is_translate : Text → Bool
+is_translate word = bytes_eq word (codes "--translate") || starts_with nat_eq word (codes "--translate=")
+
+-- one of the words after the program's name is --translate
+abbrev pub asks_translation : List Text → Bool
+asks_translation [] = false
+asks_translation (name ∷ words) = list_any is_translate words
+
 -- the reasons to refuse the words; there are none if they are accepted
 unfoldable pub faults : List Text → Kinds
-faults words = fault_of gatekeeper_app words ++ choice_faults (entered words)
+faults words = if asks_translation words then fault_of translation_app words else lines_faults words
 
 -- ---- what they ask for
 
@@ -144,10 +165,16 @@ pub record ClusterOrder : Type 0 where
   pub verbose : Bool
   pub status : Bool
 
--- lines are answered under policies, or as a cluster does
+-- the name of the file of the policy that is translated, and what happens to a message expression that is refused
+pub record TranslationOrder : Type 0 where
+  pub file : Text
+  pub rule : MessageRule
+
+-- lines are answered under policies, or as a cluster does; or no line is, and a policy is translated
 pub data LinesOrder : Type 0 where
   by_policies : GatekeeperOrder → LinesOrder
   by_cluster : ClusterOrder → LinesOrder
+  by_translation : TranslationOrder → LinesOrder
 
 -- the texts of an option, in the order of the words
 abbrev pub texts_of : Text → List Row → List Text
@@ -169,9 +196,13 @@ limits_from rows = record { steps = steps_from rows; reads = reads_from rows }
 abbrev pub max_line_from : List Row → ℕ
 max_line_from rows = unwrap_or (number_of (one_of (codes "max-line") rows)) longest_line
 
+-- a message expression that is refused is left out if --leave-messages is given
+abbrev pub rule_from : List Row → MessageRule
+rule_from rows = if leaves_messages rows then LeftOut else Required
+
 -- the language of the policies: the wide one, unless --profile is given
 abbrev pub language_from : List Row → Language
-language_from rows = if is_profile rows then Profile else Wide (if leaves_messages rows then LeftOut else Required)
+language_from rows = if is_profile rows then Profile else Wide (rule_from rows)
 
 -- from the values of the arguments
 unfoldable pub policies_from : List Row → GatekeeperOrder
@@ -202,6 +233,15 @@ cluster_from rows = record {
 abbrev pub order_from : List Row → LinesOrder
 order_from rows = if is_named (codes "cluster") rows then by_cluster (cluster_from rows) else by_policies (policies_from rows)
 
+-- from the values of the arguments of a translation
+unfoldable pub translation_from : List Row → TranslationOrder
+translation_from rows = record { file = unwrap_or (first_of (codes "translate") rows) []; rule = rule_from rows }
+
+-- what words that are accepted ask for
+unfoldable pub order_of_words : List Text → LinesOrder
+order_of_words words =
+    if asks_translation words then by_translation (translation_from (matches_of translation_app words)) else order_from (entered words)
+
 -- ---- the code's
 
 -- the order of the code
@@ -228,10 +268,14 @@ cluster_order_view o = record {
   status = o.status;
 }
 
+abbrev pub translation_order_view : CodeTranslationOrder → TranslationOrder
+translation_order_view o = record { file = string_bytes o.file; rule = o.rule }
+
 abbrev pub lines_order_view : CodeOrder → LinesOrder
 lines_order_view (code.Policies o) = by_policies (order_view o)
 lines_order_view (code.Cluster o) = by_cluster (cluster_order_view o)
+lines_order_view (code.Translation o) = by_translation (translation_order_view o)
 
 -- an order is returned only if the words are accepted, and then it is theirs
 abbrev pub GatekeeperOrderReturns : List Text → Result CodeOrder OrderError → Type 0
-GatekeeperOrderReturns words result = TakesWords (faults words) (λ o. order_from (entered words) ≡ lines_order_view o) result
+GatekeeperOrderReturns words result = TakesWords (faults words) (λ o. order_of_words words ≡ lines_order_view o) result

@@ -1,2 +1,2 @@
 -- Texts in documents.
-pub use Rattle.value_table.specs.MemberText.{text_at, text_in}
+pub use Rattle.review_tables.specs.MemberText.{text_at, text_in}

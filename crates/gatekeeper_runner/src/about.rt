@@ -41,6 +41,7 @@ fn help_text() -> &'static str
        gatekeeper --cluster F [--cluster F ..] [--partial]
                   [--profile | --leave-messages] [--steps N] [--reads N]
                   [--max-line N] [--verbose] [--status]
+       gatekeeper --translate F [--leave-messages]
 
 Compiles the policies, and answers each review on standard input, a JSON document
 a line, with a line on standard output.
@@ -52,12 +53,13 @@ a line, with a line on standard output.
                  once or more
   --partial      a policy of the cluster that is refused does not end the start;
                  the requests that it matches are refused, if none denies them
+  --translate F  prints the policy of the file in the language that is compiled
   --profile      policies are read in the language that is compiled, as celbpf reads
                  them, and not as clusters store them
   --leave-messages
                  a message expression that is refused is left out of its policy
   --steps N      the most steps of a policy's program; 10000000 if not given
-  --reads N      the most bytes that its helper calls read; 268435456 if not given
+  --reads N      the most bytes that its helper calls read; 16777216 if not given
   --max-line N   the most bytes of a line; 16777216 if not given
   --verbose      tells of each refused line on standard error, with its number
   --status       ends with status 1 if an answer is a denial or a refusal

@@ -15,6 +15,7 @@ use crate::reports::Reports;
 use crate::start_refusal::StartRefusal;
 use crate::starting::start;
 use crate::task::Task;
+use crate::translating::translate;
 use cli::texts_of;
 use host::{Files, OrderError};
 use std::alloc::Global;
@@ -66,6 +67,7 @@ fn begin_order<F: Files>(alloc: Global, order: Order, files: &mut F) -> Result<T
             Ok(Task::Policies(start(alloc, &order, files)?, reports))
         }
         Order::Cluster(order) => begin_cluster(alloc, order, files),
+        Order::Translation(order) => Ok(Task::Translation(translate(alloc, &order, files)?)),
     }
 }
 

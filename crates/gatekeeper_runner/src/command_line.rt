@@ -69,7 +69,7 @@ fn profile_argument<'a>(alloc: Global) -> Arg<'a>
 
 // --leave-messages, a switch
 #[tactic(auto, unfolding(crate::specs::Orders::leave_messages_rule))]
-fn leave_messages_argument<'a>(alloc: Global) -> Arg<'a>
+pub fn leave_messages_argument<'a>(alloc: Global) -> Arg<'a>
     ensures rule { rule_of result ≡ leave_messages_rule }
     ensures local { result.global ≡ false }
 {

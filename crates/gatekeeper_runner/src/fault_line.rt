@@ -3,8 +3,8 @@ ghost use Rattle.std.specs.Prelude.{◌≡◌, ◌++◌, decimal, IfOk, OnOk};
 ghost use Rattle.gatekeeper_runner.specs.ClusterStarting.{code_and_name, fault_line, fault_text, state_text};
 
 use crate::cluster_fault::ClusterFault;
-use crate::telling::{add_cause, add_number};
-use crate::wide_texts::add_wide;
+use crate::telling::add_cause;
+use cli::{add_number, add_wide};
 use cluster_state::StateError;
 use std::alloc::{AllocError, Global};
 

@@ -13,9 +13,10 @@ use crate::refused::Refused;
 use crate::tally::Tally;
 use admission::{Decision, Limits, RunError};
 use policy_glue::Rejection;
+use review_tables::SharedDocuments;
 use std::alloc::{AllocError, Global};
 use value_store::ValueStore;
-use value_table::{SharedDocuments, Table};
+use value_table::Table;
 
 /// The policies and the documents under which each line is decided. They are the same for all
 /// lines.

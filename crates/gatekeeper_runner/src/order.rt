@@ -2,6 +2,7 @@
 
 use crate::cluster_order::ClusterOrder;
 use crate::policy_order::PolicyOrder;
+use crate::translation_order::TranslationOrder;
 
 /// What the words ask for.
 #[derive(Drop)]
@@ -10,4 +11,6 @@ pub enum Order {
     Policies(PolicyOrder),
     /// Lines are answered as a cluster does.
     Cluster(ClusterOrder),
+    /// A policy is translated.
+    Translation(TranslationOrder),
 }

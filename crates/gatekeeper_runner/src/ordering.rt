@@ -1,13 +1,15 @@
 //! Reads the command line.
 ghost use Rattle.std.specs.Prelude.{◌≡◌, codes, map, string_bytes, IfOk};
 ghost use Rattle.clap.specs.Words.{found_of, rows_of};
-ghost use Rattle.gatekeeper_runner.specs.Orders.{cluster_from, cluster_order_view, go_together, has_status, is_named, is_partial, is_profile, is_verbose, language_from, leaves_messages, limits_from, lines_order_view, max_line_from, order_from, order_view, policies_from, texts_of, GatekeeperOrderReturns};
+ghost use Rattle.cli.specs.Parsing.{TakesWords};
+ghost use Rattle.gatekeeper_runner.specs.Orders.{cluster_from, cluster_order_view, entered, go_together, has_status, is_named, is_partial, is_profile, is_verbose, language_from, leaves_messages, limits_from, lines_faults, lines_order_view, max_line_from, order_from, order_view, policies_from, rule_from, texts_of, GatekeeperOrderReturns};
 
 use crate::cluster_order::ClusterOrder;
 use crate::command_line::gatekeeper_matches;
 use crate::limits::LONGEST_LINE;
 use crate::order::Order;
 use crate::policy_order::PolicyOrder;
+use crate::translation_ordering::{asks_translation, translation_of};
 use admission::{Language, Limits, MessageRule};
 use clap::ArgMatches;
 use cli::{name_in, number_in, reads_in, steps_in, text_in};
@@ -22,6 +24,16 @@ use std::alloc::{AllocError, Global};
 /// implies nothing about the words.
 pub fn order_of<'a>(alloc: Global, words: &'a [&'a str]) -> Result<Order, OrderError>
     ensures { GatekeeperOrderReturns (map (λ s. s.now) words.entry.now) result }
+{
+    if asks_translation(words) {
+        return Ok(Order::Translation(translation_of(alloc, words)?));
+    }
+    lines_order_of(alloc, words)
+}
+
+/// Reads words that do not ask for a translation.
+fn lines_order_of<'a>(alloc: Global, words: &'a [&'a str]) -> Result<Order, OrderError>
+    ensures { TakesWords (lines_faults (map (λ s. s.now) words.entry.now)) (λ o. order_from (entered (map (λ s. s.now) words.entry.now)) ≡ lines_order_view o) result }
 {
     let matches = gatekeeper_matches(alloc, words)?;
     if !go_together(&matches) {
@@ -107,10 +119,19 @@ fn language_in(matches: &ArgMatches) -> Language
 {
     if is_profile(matches) {
         Language::Profile
-    } else if leaves_messages(matches) {
-        Language::Wide(MessageRule::LeftOut)
     } else {
-        Language::Wide(MessageRule::Required)
+        Language::Wide(rule_in(matches))
+    }
+}
+
+/// What happens to message expressions that are refused.
+pub fn rule_in(matches: &ArgMatches) -> MessageRule
+    ensures { result ≡ rule_from (rows_of (found_of matches.now)) }
+{
+    if leaves_messages(matches) {
+        MessageRule::LeftOut
+    } else {
+        MessageRule::Required
     }
 }
 

@@ -5,15 +5,17 @@ ghost use Rattle.streams.specs.Streams.{stream};
 ghost use Rattle.policy_glue.specs.OneImage.{OneImage};
 ghost use Rattle.cli.specs.Ending.{given_of, system};
 ghost use Rattle.gatekeeper_runner.specs.AnsweredLines.{UnderPolicies};
-ghost use Rattle.gatekeeper_runner.specs.Program.{AnswersUnder, EndsUnder, GatekeeperResult, PerformsTask, TellsText};
+ghost use Rattle.gatekeeper_runner.specs.Program.{AnswersUnder, EndsUnder, GatekeeperResult, PerformsTask, TellsText, TellsTranslation};
+ghost use Rattle.gatekeeper_runner.specs.Translating.{translation_view};
 
 use crate::answering::answer_lines;
 use crate::beginning::begin;
 use crate::cluster_program::answer_as_cluster;
 use crate::gatekeeper::Gatekeeper;
 use crate::reports::Reports;
-use crate::start_ending::end_start;
+use crate::start_ending::{end_start, tell_bytes};
 use crate::task::Task;
+use crate::translation::Translation;
 use crate::verbose::{ending_of, tell_under};
 use cli::{Refusal, exit_with};
 use host::{Files, OrderError};
@@ -67,14 +69,36 @@ fn perform<R: LineSource, W: Sink, E: Sink>(
             end_under(keeper, *reports, requests, answers, refusals)
         }
         Task::Cluster(task) => answer_as_cluster(task, requests, answers, refusals),
+        Task::Translation(translation) => tell_translation(translation, answers, refusals),
     }
+}
+
+/// Writes a translation, after the lines on what is left out of it. Returns the code.
+fn tell_translation<W: Sink, E: Sink>(
+    translation: &Translation,
+    answers: &mut W,
+    refusals: &mut E,
+) -> ExitCode
+    ensures { TellsTranslation (translation_view translation.now) (stream (W.taken answers.old) (W.failed answers.old)) (stream (W.taken answers.new) (W.failed answers.new))
+        (stream (E.taken refusals.old) (E.failed refusals.old)) (stream (E.taken refusals.new) (E.failed refusals.new)) (exit_status result) }
+{
+    tell_bytes(translation.notes.as_slice(), refusals);
+    let ending = tell_all(translation.text.as_slice(), answers);
+    exit_with(translation.alloc, ending, refusals)
 }
 
 /// Writes a text. Returns the status.
 fn tell<W: Sink>(text: &str, answers: &mut W) -> Result<u8, Refusal>
     ensures { TellsText text.now (stream (W.taken answers.old) (W.failed answers.old)) (stream (W.taken answers.new) (W.failed answers.new)) result }
 {
-    match write_all(answers, text.as_bytes()) {
+    tell_all(text.as_bytes(), answers)
+}
+
+/// Writes these bytes of a text. Returns the status.
+fn tell_all<W: Sink>(text: &[u8], answers: &mut W) -> Result<u8, Refusal>
+    ensures { TellsText text.now (stream (W.taken answers.old) (W.failed answers.old)) (stream (W.taken answers.new) (W.failed answers.new)) result }
+{
+    match write_all(answers, text) {
         Ok(()) => Ok(0),
         Err(_) => Err(Refusal::Output),
     }

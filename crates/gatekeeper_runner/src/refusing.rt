@@ -10,8 +10,8 @@ ghost use Rattle.gatekeeper_runner.specs.Together.{label_view, refused_view};
 use crate::policy_label::PolicyLabel;
 use crate::refused::Refused;
 use json::Writer;
+use review_tables::text_at;
 use std::alloc::{AllocError, Global};
-use value_table::text_at;
 
 /// The room in bytes that a refusal without long names takes.
 const ROOM: usize = 128;
@@ -82,7 +82,7 @@ fn write_policy(writer: &mut Writer, label: &PolicyLabel) -> Result<(), AllocErr
 }
 
 /// Writes a member whose value is a text.
-fn write_text(writer: &mut Writer, name: &str, text: &str) -> Result<(), AllocError>
+pub fn write_text(writer: &mut Writer, name: &str, text: &str) -> Result<(), AllocError>
     ensures { OnOk result (AddsTokens writer.old writer.new (text_tokens name.now text.now)) }
 {
     writer.key(name)?;

@@ -11,8 +11,8 @@ use crate::start_refusal::StartRefusal;
 use admission::{Gate, Language, WideGate};
 use cli::{Refusal, read_given};
 use host::Files;
+use review_tables::SharedDocuments;
 use std::alloc::Global;
-use value_table::SharedDocuments;
 
 /// Compiles the policies in the files that the order names, in order, and then reads the other
 /// files.

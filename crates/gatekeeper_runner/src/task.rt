@@ -3,6 +3,7 @@
 use crate::cluster_task::ClusterTask;
 use crate::gatekeeper::Gatekeeper;
 use crate::reports::Reports;
+use crate::translation::Translation;
 
 /// What the words ask for, with what was read from files.
 #[derive(Drop)]
@@ -13,4 +14,6 @@ pub enum Task {
     Policies(Gatekeeper, Reports),
     /// Lines are answered as a cluster does.
     Cluster(ClusterTask),
+    /// A translation is written.
+    Translation(Translation),
 }

@@ -1,5 +1,5 @@
 //! The lines on a cluster that go to standard error.
-ghost use Rattle.std.specs.Prelude.{◌≡◌, ◌++◌, decimal, map, option_map, IfOk, OnOk};
+ghost use Rattle.std.specs.Prelude.{◌≡◌, ◌++◌, map, option_map, IfOk, OnOk};
 ghost use Rattle.admission.specs.declared.language.Language.{Language};
 ghost use Rattle.serde_json.specs.View.{view};
 ghost use Rattle.cluster_state.specs.Policies.{param_kind_view, BoundPolicy};
@@ -10,11 +10,10 @@ ghost use Rattle.gatekeeper_runner.specs.ClusterStarting.{cause_code, cause_text
 ghost use Rattle.gatekeeper_runner.specs.ClusterTelling.{block_text, cause_of, note_line, note_lines, params_text, policy_line, spaced, TellsPolicies};
 
 use crate::listed::Listed;
-use crate::wide_texts::{add_policy, add_wide, add_wide_cause};
 use admission::LeftOut;
+use cli::{add_number, add_policy, add_wide, add_wide_cause};
 use cluster_gate::{BlockCause, PolicyGate, Standing};
 use cluster_state::{Binding, ParamKind, State};
-use itoa::Buffer;
 use serde_json::Value;
 use std::alloc::{AllocError, Global};
 
@@ -101,14 +100,6 @@ fn add_params<'a>(
     add_number(line, listed.count(kind))
 }
 
-/// Adds a number.
-pub fn add_number(line: &mut Vec<u8>, n: usize) -> Result<(), AllocError>
-    ensures { OnOk result (line.new.items ≡ line.old.items ++ decimal n) }
-{
-    line.extend_from_slice(Buffer::new().format(n).as_bytes())?;
-    Ok(())
-}
-
 /// Adds why the policy is blocked, if it is.
 fn add_standing(alloc: Global, line: &mut Vec<u8>, standing: &Standing) -> Result<(), AllocError>
     ensures { OnOk result (line.new.items ≡ line.old.items ++ block_text (cause_of standing.now)) }
@@ -143,7 +134,7 @@ pub fn add_cause(alloc: Global, line: &mut Vec<u8>, cause: &BlockCause) -> Resul
 }
 
 /// Adds the lines on the message expressions that are left out of the policy with this name.
-fn add_notes(text: &mut Vec<u8>, name: &str, notes: &[LeftOut]) -> Result<(), AllocError>
+pub fn add_notes(text: &mut Vec<u8>, name: &str, notes: &[LeftOut]) -> Result<(), AllocError>
     ensures { OnOk result (text.new.items ≡ text.old.items ++ note_lines name.now notes.now) }
 {
     for note in notes {

@@ -26,7 +26,7 @@ const THREE_ANSWERS: &str =
 
 /// The words, the status, standard output and standard error, on the lines above.
 #[rattlefmt::skip]
-const ROWS: [(&str, u8, &str, &str); 33] = [
+const ROWS: [(&str, u8, &str, &str); 34] = [
     (BOTH, 0, THREE_ANSWERS, "celbpf: policy p, bindings b\ncelbpf: policy q, bindings c\n"),
     ("gatekeeper --cluster policies", 0, NOTHING_BOUND, ""),
     ("gatekeeper --cluster none", 3, "", "celbpf: C1 none\n"),
@@ -38,7 +38,8 @@ const ROWS: [(&str, u8, &str, &str); 33] = [
     ("gatekeeper --cluster no-binding", 3, "", "celbpf: C5 b\n"),
     ("gatekeeper --cluster no-constraints", 3, "", "celbpf: C6 p\n"),
     ("gatekeeper --cluster no-validations", 3, "", "celbpf: C7 p K4\n"),
-    ("gatekeeper --cluster condition", 3, "", "celbpf: C7 p namespaceObject\n"),
+    ("gatekeeper --cluster condition", 0, CONDITION_ANSWERS, "celbpf: policy p, bindings b\n"),
+    ("gatekeeper --cluster condition --profile", 3, "", "celbpf: C7 p namespaceObject\n"),
     ("gatekeeper --cluster no-kind", 3, "", "celbpf: C8 p\n"),
     ("gatekeeper --cluster no-validations --partial", 0, C7_REFUSED, "celbpf: policy p, bindings b, blocked C7 K4\n"),
     ("gatekeeper --partial --cluster no-kind", 0, C8_REFUSED, "celbpf: policy p, bindings b, params example.com/v1 Limit 0, blocked C8\n"),
@@ -71,6 +72,13 @@ const WIDE_ANSWERS: &str =
 
 const WIDE_TOLD: &str = r#"celbpf: policy p, bindings b
 celbpf: policy p, left out message 1 W5 url
+"#;
+
+/// The answers of `condition`, which denies if a match condition has no namespace.
+const CONDITION_ANSWERS: &str =
+    r#"{"apiVersion":"admission.k8s.io/v1","kind":"AdmissionReview","response":{"allowed":false,"status":{"code":422,"message":"deployments.apps \"web\" is forbidden: ValidatingAdmissionPolicy 'p' with binding 'b' denied request: odd","reason":"Invalid"},"uid":"u1"}}
+{"apiVersion":"admission.k8s.io/v1","kind":"AdmissionReview","response":{"allowed":false,"status":{"code":422,"message":"deployments.apps \"web\" is forbidden: ValidatingAdmissionPolicy 'p' with binding 'b' denied request: odd","reason":"Invalid"},"uid":"u2"}}
+{"refused":"N2","uid":"u3"}
 "#;
 
 /// The answers if no policy is bound.

@@ -45,6 +45,19 @@ const OPTIONAL_ANSWERS: &str =
 {"apiVersion":"admission.k8s.io/v1","kind":"AdmissionReview","response":{"allowed":false,"status":{"code":422,"message":"failed expression: object.spec.?replicas.orValue(1) <= 3","reason":"Invalid"},"uid":"u2"}}
 "#;
 
+/// The translations of `few`, `optional` and `untold`, the last without its message expression.
+const FEW_TRANSLATED: &str =
+    r#"{"apiVersion":"admissionregistration.k8s.io/v1","kind":"ValidatingAdmissionPolicy","metadata":{"annotations":{"validation.0":"object.spec.replicas <= 3"}},"spec":{"failurePolicy":"Fail","validations":[{"expression":"(object.spec.replicas <= 3)","reason":"Invalid"}]}}
+"#;
+
+const OPTIONAL_TRANSLATED: &str =
+    r#"{"apiVersion":"admissionregistration.k8s.io/v1","kind":"ValidatingAdmissionPolicy","metadata":{"annotations":{"validation.0":"object.spec.?replicas.orValue(1) <= 3"}},"spec":{"failurePolicy":"Fail","validations":[{"expression":"((((object.spec != null) && has(object.spec.replicas)) ? object.spec.replicas : 1) <= 3)","reason":"Invalid"}]}}
+"#;
+
+const UNTOLD_TRANSLATED: &str =
+    r#"{"apiVersion":"admissionregistration.k8s.io/v1","kind":"ValidatingAdmissionPolicy","metadata":{"annotations":{"variable.0":"object.?a","condition.0":"true","validation.0":"false","validation.1":"true","message.1":"'b'"}},"spec":{"failurePolicy":"Ignore","variables":[{"name":"v","expression":"(((object != null) && has(object.a)) ? [object.a] : [])"}],"matchConditions":[{"name":"c","expression":"true"}],"validations":[{"expression":"false","message":"\"no\"","reason":"Forbidden"},{"expression":"true","messageExpression":"\"b\"","reason":"Invalid"}]}}
+"#;
+
 /// The answers of `few` and `slow`, in either order: a request that the first does not deny is not decided by
 /// the second, and one that the first denies is denied.
 const ONE_REFUSED: &str =
@@ -96,7 +109,7 @@ no
 
 /// The words, the input, the status, standard output and the refusal.
 #[rattlefmt::skip]
-const ROWS: [(&str, &str, u8, &str, &str); 48] = [
+const ROWS: [(&str, &str, u8, &str, &str); 64] = [
     (FEW, TWO, 0, TWO_ANSWERS, ""),
     (
         FEW,
@@ -173,6 +186,22 @@ const ROWS: [(&str, &str, u8, &str, &str); 48] = [
     ("gatekeeper --policy few --policy none --profile", TWO, 3, "", "K1"),
     ("gatekeeper --policy few --leave-messages", TWO, 2, "", "U1"),
     ("gatekeeper --policy few --profile --profile", TWO, 2, "", "U1"),
+    ("gatekeeper --translate few", TWO, 0, FEW_TRANSLATED, ""),
+    ("gatekeeper --translate=optional", TWO, 0, OPTIONAL_TRANSLATED, ""),
+    ("gatekeeper --leave-messages --translate optional", TWO, 0, OPTIONAL_TRANSLATED, ""),
+    ("gatekeeper --translate untold --leave-messages", TWO, 0, UNTOLD_TRANSLATED, "policy untold, left out message 0 W5 url"),
+    ("gatekeeper --translate untold", TWO, 3, "", "K6 message 0 W5 url"),
+    ("gatekeeper --policy untold", TWO, 3, "", "K6 message 0 W5 url"),
+    ("gatekeeper --translate unknown", TWO, 3, "", "K6 validation 1 W5 url"),
+    ("gatekeeper --translate no-value --leave-messages", TWO, 3, "", "K6 validation 0 W4"),
+    ("gatekeeper --translate none", TWO, 3, "", "K1"),
+    ("gatekeeper --translate missing", TWO, 3, "", "file"),
+    ("gatekeeper --translate", TWO, 2, "", "U1"),
+    ("gatekeeper --translate few --policy few", TWO, 2, "", "U1"),
+    ("gatekeeper --policy few --translate few", TWO, 2, "", "U1"),
+    ("gatekeeper --translate few --translate few", TWO, 2, "", "U1"),
+    ("gatekeeper --translate few --profile", TWO, 2, "", "U1"),
+    ("gatekeeper --translate few --max-line 16777216", TWO, 2, "", "U1"),
     ("gatekeeper --version --policy missing", TWO, 0, "gatekeeper 0.20261130\n", ""),
 ];
 
@@ -185,9 +214,9 @@ fn ends<R: LineSource>(
     room: usize,
     due: (u8, &[u8], &str),
 ) -> Result<bool, AllocError> {
-    let mut out = [0u8; 512];
+    let mut out = [0u8; 1024];
     let mut err = [0u8; 64];
-    let (front, _) = out.split_at_mut(room.min(512));
+    let (front, _) = out.split_at_mut(room.min(1024));
     let code = exit_code(
         alloc,
         Ok(words(alloc, line)?),
@@ -207,14 +236,17 @@ fn answers_each_line(rt: HostRuntime) -> Result<(), Fail> {
         let due = (status, out.as_bytes(), err.as_str());
         let mut byte = Buffered::<_, 1>::new(Counting::new(input));
         assert!(rt;
-            ends(rt.alloc(), line, &mut byte, 512, due)?,
+            ends(rt.alloc(), line, &mut byte, 1024, due)?,
             "row {row}, 1"
         );
         let mut few = Buffered::<_, 7>::new(Counting::new(input));
-        assert!(rt; ends(rt.alloc(), line, &mut few, 512, due)?, "row {row}, 7");
+        assert!(rt;
+            ends(rt.alloc(), line, &mut few, 1024, due)?,
+            "row {row}, 7"
+        );
         let mut all = Buffered::<_, 1024>::new(Counting::new(input));
         assert!(rt;
-            ends(rt.alloc(), line, &mut all, 512, due)?,
+            ends(rt.alloc(), line, &mut all, 1024, due)?,
             "row {row}, 1024"
         );
     }
@@ -251,6 +283,26 @@ fn ends_where_a_write_fails(rt: HostRuntime) -> Result<(), Fail> {
         let due = (3, &answers[..room], "celbpf: S2\n");
         assert!(rt;
             ends(rt.alloc(), words, &mut input, room, due)?,
+            "room for {room}"
+        );
+    }
+    Ok(())
+}
+
+#[test]
+fn ends_where_a_translation_is_not_written(rt: HostRuntime) -> Result<(), Fail> {
+    let text = FEW_TRANSLATED.as_bytes();
+    for room in 0..text.len() {
+        let mut input = Buffered::<_, 64>::new(Counting::new(TWO.as_bytes()));
+        let due = (3, &text[..room], "celbpf: S2\n");
+        assert!(rt;
+            ends(
+                rt.alloc(),
+                "gatekeeper --translate few",
+                &mut input,
+                room,
+                due
+            )?,
             "room for {room}"
         );
     }

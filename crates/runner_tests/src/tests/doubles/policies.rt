@@ -25,6 +25,10 @@ const NO_VALUE: &str =
 const BYTES: &str =
     r#"{"apiVersion":"admissionregistration.k8s.io/v1","kind":"ValidatingAdmissionPolicy","spec":{"validations":[{"expression":"object.a == b'a'"}]}}"#;
 
+/// Its message expression has no translation.
+const UNTOLD: &str =
+    r#"{"apiVersion":"admissionregistration.k8s.io/v1","kind":"ValidatingAdmissionPolicy","spec":{"failurePolicy":"Ignore","matchConditions":[{"name":"c","expression":"true"}],"variables":[{"name":"v","expression":"object.?a"}],"validations":[{"expression":"false","message":" \"no\" ","messageExpression":"url('a')","reason":"Forbidden"},{"expression":"true","messageExpression":"'b'"}]}}"#;
+
 /// A loop with 4,096 iterations of at least one step each.
 const SLOW: &str =
     r#"{"apiVersion":"admissionregistration.k8s.io/v1","kind":"ValidatingAdmissionPolicy","metadata":{"name":"slow-one"},"spec":{"failurePolicy":"Ignore","validations":[{"expression":"[1,2,3,4,5,6,7,8,9,10,11,12,13,14,15,16].all(x, [1,2,3,4,5,6,7,8,9,10,11,12,13,14,15,16].all(y, [1,2,3,4,5,6,7,8,9,10,11,12,13,14,15,16].all(z, x + y + z > 0)))"}]}}"#;
@@ -43,7 +47,7 @@ pub const DEEP: &str =
 
 /// `few` allows at most 3 replicas, `lenient` too, under Ignore, `even` an even number of them, `slow`
 /// any number after many steps, `deep` is stopped, and `none` is not a policy. `optional` is as `few`, in the
-/// wide language; `unknown`, `no-value` and `bytes` are refused there.
+/// wide language; `unknown`, `no-value` and `bytes` are refused there, and `untold` for its message.
 #[derive(Drop)]
 pub struct Policies;
 
@@ -63,6 +67,7 @@ impl Files for Policies {
             "unknown" => UNKNOWN,
             "no-value" => NO_VALUE,
             "bytes" => BYTES,
+            "untold" => UNTOLD,
             "none" => "no",
             _ => return Err(FileError::Failed),
         };

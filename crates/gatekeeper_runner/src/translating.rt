@@ -1,0 +1,53 @@
+//! Translates a policy.
+ghost use Rattle.std.specs.Prelude.{◌≡◌};
+ghost use Rattle.gatekeeper_runner.specs.Orders.{translation_order_view};
+ghost use Rattle.gatekeeper_runner.specs.Translating.{ReadsTranslated, TranslatesFrom};
+
+use crate::labeling::label_of;
+use crate::start_refusal::StartRefusal;
+use crate::telling::add_notes;
+use crate::translation::Translation;
+use crate::translation_order::TranslationOrder;
+use crate::translation_text::translation_text;
+use admission::{MessageRule, WideRefusal};
+use host::Files;
+use policy_glue::compile;
+use std::alloc::Global;
+use wide_policy::WidePolicy;
+
+/// What is written for the policy in the file that the order names.
+///
+/// # Errors
+///
+/// What a start under this policy is refused for: its file, or the policy. `Memory` if an allocation
+/// fails, which implies nothing about the file.
+pub fn translate<F: Files>(
+    alloc: Global,
+    order: &TranslationOrder,
+    files: &mut F,
+) -> Result<Translation, StartRefusal>
+    ensures translates { TranslatesFrom (F.known files.old) (translation_order_view order.now) result }
+    ensures known { F.known files.new ≡ F.known files.old }
+{
+    let file = order.file.as_str();
+    let document = files.read(alloc, file)?;
+    let policy = read_translated(alloc, document.as_slice(), order.rule)?;
+    let label = label_of(alloc, file, document.as_slice())?;
+    let mut notes = Vec::new(alloc);
+    add_notes(&mut notes, label.name.as_str(), policy.left_out.as_slice())?;
+    let text = translation_text(alloc, policy)?;
+    Ok(Translation { alloc, notes, text })
+}
+
+/// The policy in a document, whose translation compiles.
+fn read_translated(
+    alloc: Global,
+    document: &[u8],
+    rule: MessageRule,
+) -> Result<WidePolicy, WideRefusal>
+    ensures { ReadsTranslated rule document.now result }
+{
+    let policy = WidePolicy::read(alloc, document, rule)?;
+    let _image = compile(alloc, &policy.profile)?;
+    Ok(policy)
+}
