@@ -9,18 +9,21 @@
  *
  * - Pointers: none is null, even if its count is 0. The bytes are there, and what a call writes (the gate, the room, the
  *   length) overlaps nothing else that is passed.
- * - Stack: CELBPF_NEW_STACK bytes in celbpf_gate_new, celbpf_compile, celbpf_review and celbpf_review_within,
+ * - Stack: CELBPF_WIDE_STACK bytes in the two `_wide` calls, CELBPF_NEW_STACK bytes in the others that are passed a policy,
  *   CELBPF_DECIDE_STACK bytes in celbpf_gate_decide and celbpf_gate_decide_within. With less a hostile policy or document
  *   can overflow the stack, which ends the process.
  *
  * Both forms ask of you:
  *
  * - Threads: a gate has one call at a time, and may move between threads. Different gates need no lock. So give each
- *   thread a gate, or lock. celbpf_review, celbpf_review_within and celbpf_compile may run on any thread at any time.
+ *   thread a gate, or lock. The calls without a gate may run on any thread at any time.
  * - Ownership: a gate is a struct of yours. Start it with {0}, do not copy it while it is full, and free it once. What
  *   is passed in is read during the call alone. The library keeps no pointer to it.
  * - Not from a signal handler, nor from a forked child of a process with threads. malloc, realloc and free are the
  *   process's, and belong together.
+ *
+ * Policies are read in one of two languages. celbpf_gate_new_wide and celbpf_review_wide read them as clusters store them,
+ * and decide as the program gatekeeper does. The other calls read the language that is compiled, as the program celbpf does.
  *
  * Counts and lengths are bytes. Documents are JSON, and need no 0 at their end; texts that are written have none.
  */
@@ -37,17 +40,19 @@ extern "C" {
 /* The version of this interface. It is the same as celbpf_version() of the library that it belongs to. */
 #define CELBPF_VERSION 1u
 
-/* Bytes of room that suffice for the line of any refusal. */
+/* Bytes of room that suffice for the line of any refusal, but of a policy in the wide language, whose line may name what the
+ * policy names. */
 #define CELBPF_LINE 80u
 
 /* The steps that the program celbpf gives a policy's program, unless it is told otherwise. */
 #define CELBPF_STEPS UINT64_C(10000000)
 
 /* The bytes that the program gatekeeper lets helper calls read, unless it is told otherwise. */
-#define CELBPF_READS UINT64_C(268435456)
+#define CELBPF_READS UINT64_C(16777216)
 
-/* Bytes of stack that suffice, as measured: the most that was seen are 4.8 MB and 140 KB. */
+/* Bytes of stack that suffice, as measured: the most that was seen are 4.8 MB, 22 MB without optimisation, and 140 KB. */
 #define CELBPF_NEW_STACK ((size_t)6 << 20)
+#define CELBPF_WIDE_STACK ((size_t)32 << 20)
 #define CELBPF_DECIDE_STACK ((size_t)256 << 10)
 
 /* A place for a gate: a policy that is compiled once. A place of zeros is empty. */
@@ -73,7 +78,7 @@ enum {
     CELBPF_EMPTY = 10, /* the place holds no gate */
     CELBPF_STACK = 11, /* `_checked` calls alone: there is no stack to compile a policy, and nothing was done */
 
-    CELBPF_OUT_OF_READS = 12 /* `_within` calls alone: a helper call would have read past the limit */
+    CELBPF_OUT_OF_READS = 12 /* calls with a limit of reads alone: a helper call would have read past it */
 };
 
 /*
@@ -89,6 +94,14 @@ enum {
  */
 uint32_t celbpf_gate_new(celbpf_gate *place, const uint8_t *policy, size_t policy_len, uint8_t *room, size_t room_len,
                          size_t *len);
+
+/*
+ * Compiles a policy as clusters store it and puts its gate into the place, as celbpf_gate_new does. Its calls decide as the
+ * program gatekeeper does, and messages have the texts of the policy's author.
+ * As celbpf_gate_new; the line is that of the program gatekeeper, as "celbpf: K6 validation 1 W5 url\n".
+ */
+uint32_t celbpf_gate_new_wide(celbpf_gate *place, const uint8_t *policy, size_t policy_len, uint8_t *room, size_t room_len,
+                              size_t *len);
 
 /*
  * Decides a review. No bytes for `ns` (the namespace) or `params` mean that there is none. The program may take `steps`
@@ -129,6 +142,14 @@ uint32_t celbpf_review_within(const uint8_t *policy, size_t policy_len, const ui
                               uint64_t reads, uint8_t *room, size_t room_len, size_t *len);
 
 /*
+ * Decides a review as celbpf_review_within does, under a policy as clusters store it.
+ * As there; the line of a policy's refusal is that of celbpf_gate_new_wide.
+ */
+uint32_t celbpf_review_wide(const uint8_t *policy, size_t policy_len, const uint8_t *review, size_t review_len,
+                            const uint8_t *ns, size_t ns_len, const uint8_t *params, size_t params_len, uint64_t steps,
+                            uint64_t reads, uint8_t *room, size_t room_len, size_t *len);
+
+/*
  * Compiles a policy to the file of its image, which `celbpf debug`, `list` and `run-image` take.
  * DONE: the file. 2, 3, MEMORY: the line. ROOM.
  */
@@ -144,12 +165,14 @@ size_t celbpf_stack_left(void);
 
 /*
  * The calls above, which may be passed null for documents, the room and the length. A null place is an empty one. If the
- * thread has less than CELBPF_NEW_STACK left, those that compile run on a thread of their own, with a stack of 16 MB,
- * which has ended when they return; CELBPF_STACK if there can be no such thread. The two that decide with a gate do not
+ * thread has less stack left than they need, those that compile run on a thread of their own, with a stack of 16 MB, or of 64 MB
+ * for the wide language, which has ended when they return; CELBPF_STACK if there can be no such thread. The two that decide with a gate do not
  * ask for the stack, since that takes longer than many a decision: see CELBPF_DECIDE_STACK.
  */
 uint32_t celbpf_gate_new_checked(celbpf_gate *place, const void *policy, size_t policy_len, void *room, size_t room_len,
                                  size_t *len);
+uint32_t celbpf_gate_new_wide_checked(celbpf_gate *place, const void *policy, size_t policy_len, void *room, size_t room_len,
+                                      size_t *len);
 uint32_t celbpf_gate_decide_checked(celbpf_gate *place, const void *review, size_t review_len, const void *ns, size_t ns_len,
                                     const void *params, size_t params_len, uint64_t steps, void *room, size_t room_len,
                                     size_t *len);
@@ -163,6 +186,9 @@ uint32_t celbpf_review_checked(const void *policy, size_t policy_len, const void
 uint32_t celbpf_review_within_checked(const void *policy, size_t policy_len, const void *review, size_t review_len,
                                       const void *ns, size_t ns_len, const void *params, size_t params_len, uint64_t steps,
                                       uint64_t reads, void *room, size_t room_len, size_t *len);
+uint32_t celbpf_review_wide_checked(const void *policy, size_t policy_len, const void *review, size_t review_len,
+                                    const void *ns, size_t ns_len, const void *params, size_t params_len, uint64_t steps,
+                                    uint64_t reads, void *room, size_t room_len, size_t *len);
 uint32_t celbpf_compile_checked(const void *policy, size_t policy_len, void *room, size_t room_len, size_t *len);
 
 #ifdef __cplusplus

@@ -7,10 +7,12 @@
 #include <signal.h>
 
 #define LARGE_STACK ((size_t)16 << 20)
+#define LARGER_STACK ((size_t)64 << 20)
 
 /* What a call is given, with no pointer null, and its status. */
 struct call {
     void (*run)(struct call *call);
+    int is_wide;
     celbpf_gate *place;
     const uint8_t *policy, *review, *ns, *params;
     size_t policy_len, review_len, ns_len, params_len;
@@ -31,6 +33,10 @@ static void run_new(struct call *call) {
     call->status = celbpf_gate_new(call->place, call->policy, call->policy_len, call->room, call->room_len, call->len);
 }
 
+static void run_new_wide(struct call *call) {
+    call->status = celbpf_gate_new_wide(call->place, call->policy, call->policy_len, call->room, call->room_len, call->len);
+}
+
 static void run_review(struct call *call) {
     call->status = celbpf_review(call->policy, call->policy_len, call->review, call->review_len, call->ns, call->ns_len,
                                  call->params, call->params_len, call->steps, call->room, call->room_len, call->len);
@@ -40,6 +46,12 @@ static void run_review_within(struct call *call) {
     call->status = celbpf_review_within(call->policy, call->policy_len, call->review, call->review_len, call->ns,
                                         call->ns_len, call->params, call->params_len, call->steps, call->reads, call->room,
                                         call->room_len, call->len);
+}
+
+static void run_review_wide(struct call *call) {
+    call->status = celbpf_review_wide(call->policy, call->policy_len, call->review, call->review_len, call->ns, call->ns_len,
+                                      call->params, call->params_len, call->steps, call->reads, call->room, call->room_len,
+                                      call->len);
 }
 
 static void run_compile(struct call *call) {
@@ -61,7 +73,8 @@ static int start(pthread_t *thread, struct call *call) {
         return failed;
     sigfillset(&all);
     pthread_sigmask(SIG_SETMASK, &all, &before);
-    failed = pthread_attr_setstacksize(&attributes, LARGE_STACK) || pthread_create(thread, &attributes, on_thread, call);
+    failed = pthread_attr_setstacksize(&attributes, call->is_wide ? LARGER_STACK : LARGE_STACK) ||
+             pthread_create(thread, &attributes, on_thread, call);
     pthread_sigmask(SIG_SETMASK, &before, NULL);
     pthread_attr_destroy(&attributes);
     return failed;
@@ -71,7 +84,7 @@ static int start(pthread_t *thread, struct call *call) {
 static uint32_t with_stack(struct call *call) {
     pthread_t thread;
     *call->len = 0;
-    if (celbpf_stack_left() >= CELBPF_NEW_STACK) {
+    if (celbpf_stack_left() >= (call->is_wide ? CELBPF_WIDE_STACK : CELBPF_NEW_STACK)) {
         call->run(call);
         return call->status;
     }
@@ -96,15 +109,26 @@ size_t celbpf_stack_left(void) {
     return here - end;
 }
 
-uint32_t celbpf_gate_new_checked(celbpf_gate *place, const void *policy, size_t policy_len, void *room, size_t room_len,
-                                 size_t *len) {
+/* Makes a gate by this function. */
+static uint32_t make(void (*run)(struct call *), celbpf_gate *place, const void *policy, size_t policy_len, void *room,
+                     size_t room_len, size_t *len) {
     size_t unused;
     struct call call = {
-        .run = run_new, .place = place, .policy = bytes(policy), .policy_len = policy ? policy_len : 0,
+        .run = run, .is_wide = run == run_new_wide, .place = place, .policy = bytes(policy), .policy_len = policy ? policy_len : 0,
         .room = writable(room), .room_len = room ? room_len : 0, .len = len ? len : &unused,
     };
     *call.len = 0;
     return place ? with_stack(&call) : CELBPF_EMPTY;
+}
+
+uint32_t celbpf_gate_new_checked(celbpf_gate *place, const void *policy, size_t policy_len, void *room, size_t room_len,
+                                 size_t *len) {
+    return make(run_new, place, policy, policy_len, room, room_len, len);
+}
+
+uint32_t celbpf_gate_new_wide_checked(celbpf_gate *place, const void *policy, size_t policy_len, void *room, size_t room_len,
+                                      size_t *len) {
+    return make(run_new_wide, place, policy, policy_len, room, room_len, len);
 }
 
 uint32_t celbpf_gate_decide_checked(celbpf_gate *place, const void *review, size_t review_len, const void *ns, size_t ns_len,
@@ -137,30 +161,39 @@ void celbpf_gate_free_checked(celbpf_gate *place) {
         celbpf_gate_free(place);
 }
 
-uint32_t celbpf_review_checked(const void *policy, size_t policy_len, const void *review, size_t review_len, const void *ns,
-                               size_t ns_len, const void *params, size_t params_len, uint64_t steps, void *room,
-                               size_t room_len, size_t *len) {
+/* Decides a review under a policy by this function. */
+static uint32_t review_by(void (*run)(struct call *), const void *policy, size_t policy_len, const void *review,
+                          size_t review_len, const void *ns, size_t ns_len, const void *params, size_t params_len,
+                          uint64_t steps, uint64_t reads, void *room, size_t room_len, size_t *len) {
     size_t unused;
     struct call call = {
-        .run = run_review, .policy = bytes(policy), .policy_len = policy ? policy_len : 0, .review = bytes(review),
-        .review_len = review ? review_len : 0, .ns = bytes(ns), .ns_len = ns ? ns_len : 0, .params = bytes(params),
-        .params_len = params ? params_len : 0, .steps = steps, .room = writable(room), .room_len = room ? room_len : 0,
-        .len = len ? len : &unused,
-    };
-    return with_stack(&call);
-}
-
-uint32_t celbpf_review_within_checked(const void *policy, size_t policy_len, const void *review, size_t review_len,
-                                      const void *ns, size_t ns_len, const void *params, size_t params_len, uint64_t steps,
-                                      uint64_t reads, void *room, size_t room_len, size_t *len) {
-    size_t unused;
-    struct call call = {
-        .run = run_review_within, .policy = bytes(policy), .policy_len = policy ? policy_len : 0, .review = bytes(review),
+        .run = run, .is_wide = run == run_review_wide, .policy = bytes(policy), .policy_len = policy ? policy_len : 0, .review = bytes(review),
         .review_len = review ? review_len : 0, .ns = bytes(ns), .ns_len = ns ? ns_len : 0, .params = bytes(params),
         .params_len = params ? params_len : 0, .steps = steps, .reads = reads, .room = writable(room),
         .room_len = room ? room_len : 0, .len = len ? len : &unused,
     };
     return with_stack(&call);
+}
+
+uint32_t celbpf_review_checked(const void *policy, size_t policy_len, const void *review, size_t review_len, const void *ns,
+                               size_t ns_len, const void *params, size_t params_len, uint64_t steps, void *room,
+                               size_t room_len, size_t *len) {
+    return review_by(run_review, policy, policy_len, review, review_len, ns, ns_len, params, params_len, steps, 0, room,
+                     room_len, len);
+}
+
+uint32_t celbpf_review_within_checked(const void *policy, size_t policy_len, const void *review, size_t review_len,
+                                      const void *ns, size_t ns_len, const void *params, size_t params_len, uint64_t steps,
+                                      uint64_t reads, void *room, size_t room_len, size_t *len) {
+    return review_by(run_review_within, policy, policy_len, review, review_len, ns, ns_len, params, params_len, steps, reads,
+                     room, room_len, len);
+}
+
+uint32_t celbpf_review_wide_checked(const void *policy, size_t policy_len, const void *review, size_t review_len,
+                                    const void *ns, size_t ns_len, const void *params, size_t params_len, uint64_t steps,
+                                    uint64_t reads, void *room, size_t room_len, size_t *len) {
+    return review_by(run_review_wide, policy, policy_len, review, review_len, ns, ns_len, params, params_len, steps, reads,
+                     room, room_len, len);
 }
 
 uint32_t celbpf_compile_checked(const void *policy, size_t policy_len, void *room, size_t room_len, size_t *len) {

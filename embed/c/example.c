@@ -1,4 +1,7 @@
-/* example POLICY REVIEW: prints the response to a review under a policy. Its status is that of `celbpf review`. */
+/*
+ * example POLICY REVIEW: prints the response to a review under a policy, which is read as clusters store it. Its status is
+ * that of `celbpf review`.
+ */
 #include <celbpf.h>
 #include <stdio.h>
 
@@ -18,7 +21,7 @@ int main(int argc, char **argv) {
     celbpf_gate gate = {0};
     size_t len;
     size_t policy_len = read_file(argv[1], policy, sizeof policy), review_len = read_file(argv[2], review, sizeof review);
-    uint32_t status = celbpf_gate_new_checked(&gate, policy, policy_len, response, sizeof response, &len);
+    uint32_t status = celbpf_gate_new_wide_checked(&gate, policy, policy_len, response, sizeof response, &len);
     if (status == CELBPF_DONE)
         status = celbpf_gate_decide_within_checked(&gate, review, review_len, NULL, 0, NULL, 0, CELBPF_STEPS, CELBPF_READS,
                                                    response, sizeof response, &len);

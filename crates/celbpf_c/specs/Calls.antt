@@ -6,7 +6,7 @@ use Rattle.policy_glue.specs.OneImage.{OneImage}
 use Rattle.admission.specs.Deciding.{CompilesDocument, Documents, IsGateOn, IsPolicyOf, OpensGate, Reply, Reviews}
 use Rattle.admission.specs.GatePolicies.{GatePolicy}
 use Rattle.admission.specs.Standing.{exactly, Images, RunAgrees}
-use Rattle.admission.specs.declared.language.Language.TheVariants.{Profile}
+use Rattle.admission.specs.declared.language.Language.{Language}
 use Rattle.admission.specs.declared.limits.Limits.{Limits}
 use Rattle.admission.specs.declared.policy_and_image.PolicyAndImage.{PolicyAndImage}
 use Rattle.admission.specs.declared.policy_refusal.PolicyRefusal.{PolicyRefusal}
@@ -26,21 +26,21 @@ interface_version = 1
 abbrev pub given : List ℕ → Option (List ℕ)
 given document = if length document == 0 then None else Some document
 
--- the documents of a policy and of a review under it
-abbrev pub documents_of : List ℕ → List ℕ → List ℕ → List ℕ → Documents
-documents_of policy review namespace params =
-    record { language = Profile; policy = policy; review = review; namespace = given namespace; params = given params }
+-- the documents of a policy in this language, and of a review under it
+abbrev pub documents_of : Language → List ℕ → List ℕ → List ℕ → List ℕ → Documents
+documents_of language policy review namespace params =
+    record { language = language; policy = policy; review = review; namespace = given namespace; params = given params }
 
 -- these documents, as they are asked
-abbrev pub documents_asked : List ℕ → Asked → Documents
-documents_asked policy asked = documents_of policy asked.review.now asked.namespace.now asked.params.now
+abbrev pub documents_asked : Language → List ℕ → Asked → Documents
+documents_asked language policy asked = documents_of language policy asked.review.now asked.namespace.now asked.params.now
 
 -- ---- gates
 
--- the place holds a gate of the policy in this document
-abbrev pub Holds : List ℕ → Option GatePolicy → Type 0
-Holds document None = ⊥
-Holds document (Some gate) = IsGateOn Profile document gate
+-- the place holds a gate of the policy of this language in this document
+abbrev pub Holds : Language → List ℕ → Option GatePolicy → Type 0
+Holds language document None = ⊥
+Holds language document (Some gate) = IsGateOn language document gate
 
 -- the gate in a box
 abbrev pub gate_view : Result (Box GatePolicy Global) PolicyRefusal → Result GatePolicy PolicyRefusal

@@ -4,3 +4,4 @@ pub mod Places
 pub mod Statuses
 pub mod Output
 pub mod Calls
+pub mod WideCalls

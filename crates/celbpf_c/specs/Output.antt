@@ -2,8 +2,10 @@
 use Rattle.std.specs.Prelude.{◌≡◌, ◌++◌, ℕ, Bool, List, Result, Ok, Err, length, drop, if◌then◌else◌, nat_le}
 use Rattle.admission.specs.Deciding.{Reply}
 use Rattle.admission.specs.declared.run_error.RunError.{RunError}
+use Rattle.admission.specs.declared.wide_refusal.WideRefusal.{WideRefusal}
 use Rattle.cli.specs.Refusals.{refusal_line, run_refusal}
-use Rattle.celbpf_c.specs.Statuses.{run_status}
+use Rattle.cli.specs.WideTexts.{wide_line}
+use Rattle.celbpf_c.specs.Statuses.{run_status, wide_status}
 
 -- the text fits the buffer
 abbrev pub fits : List ℕ → List ℕ → Bool
@@ -26,3 +28,7 @@ WritesReply response allowed status before after n =
 abbrev pub WritesDecision : Result Reply RunError → ℕ → List ℕ → List ℕ → ℕ → Type 0
 WritesDecision (Ok reply) status before after n = WritesReply reply.response reply.allowed status before after n
 WritesDecision (Err e) status before after n = (status ≡ run_status e) × Writes (refusal_line (run_refusal e)) before after n
+
+-- the refusal of a policy in the wide language is written, as the program `gatekeeper` prints it
+abbrev pub WritesWideRefusal : WideRefusal → ℕ → List ℕ → List ℕ → ℕ → Type 0
+WritesWideRefusal e status before after n = (status ≡ wide_status e) × Writes (wide_line e) before after n

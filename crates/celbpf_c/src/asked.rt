@@ -2,7 +2,7 @@
 ghost use Rattle.std.specs.Prelude.{◌≡◌, ℕ, List, option_map};
 ghost use Rattle.admission.specs.Deciding.{answer_view, IsGateOn, Reviews};
 ghost use Rattle.admission.specs.Standing.{exactly, RunAgrees};
-ghost use Rattle.admission.specs.declared.language.Language.TheVariants.{Profile};
+ghost use Rattle.admission.specs.declared.language.Language.{Language};
 ghost use Rattle.celbpf_c.specs.Calls.{documents_asked, given};
 
 use admission::{Gate, Limits, Reply, RunError};
@@ -20,8 +20,8 @@ pub struct Asked<'a> {
 impl<'a> Asked<'a> {
     /// The decision of a gate.
     pub fn decided_by(self, gate: &Gate) -> Result<Reply, RunError>
-        ensures reviews { (policy : List ℕ) → IsGateOn Profile policy gate.now → Reviews (documents_asked policy self.entry) self.entry.limits (answer_view result) }
-        ensures runs { (policy : List ℕ) → IsGateOn Profile policy gate.now → RunAgrees (exactly gate.now.image) (documents_asked policy self.entry) self.entry.limits (answer_view result) }
+        ensures reviews { (language : Language) (policy : List ℕ) → IsGateOn language policy gate.now → Reviews (documents_asked language policy self.entry) self.entry.limits (answer_view result) }
+        ensures runs { (language : Language) (policy : List ℕ) → IsGateOn language policy gate.now → RunAgrees (exactly gate.now.image) (documents_asked language policy self.entry) self.entry.limits (answer_view result) }
     {
         let namespace = given(self.namespace);
         let params = given(self.params);

@@ -1,16 +1,18 @@
 //! The calls on a gate that the caller holds in its own memory.
-ghost use Rattle.std.specs.Prelude.{◌≡◌, ℕ, List, [], None, IfOk};
+ghost use Rattle.std.specs.Prelude.{◌≡◌, ℕ, List, [], None, Some, IfOk};
 ghost use Rattle.policy_glue.specs.OneImage.{OneImage};
 ghost use Rattle.admission.specs.Deciding.{OpensGate};
 ghost use Rattle.admission.specs.Standing.{steps_alone};
+ghost use Rattle.admission.specs.declared.language.Language.{Language};
 ghost use Rattle.celbpf_c.specs.Calls.{documents_asked, documents_of, gate_view, image_held, Answers, Holds, MakesGate};
 ghost use Rattle.celbpf_c.specs.Output.{Writes};
+ghost use Rattle.celbpf_c.specs.WideCalls.{wide_gate_view, MakesWideGate, OpensStored};
 
 use crate::asked::Asked;
 use crate::gate_place::GatePlace;
-use crate::output::{write_answer, write_refusal};
+use crate::output::{write_answer, write_refusal, write_wide_refusal};
 use crate::statuses::policy_status;
-use admission::{Gate, Limits, PolicyRefusal};
+use admission::{Gate, Limits, MessageRule, PolicyRefusal, WideGate, WideRefusal};
 use cli::Refusal;
 use std::alloc::{AllocError, Global};
 
@@ -27,15 +29,29 @@ pub extern "C" fn celbpf_gate_new(
     ensures { MakesGate policy.now place.old.gate place.new.gate result room.old room.new len.new }
 {
     match boxed_gate(alloc, policy) {
-        Ok(gate) => {
-            place.put(gate);
-            *len = 0;
-            0
-        }
+        Ok(gate) => put_gate(place, gate, len),
         Err(refusal) => {
             write_refusal(alloc, Refusal::from(refusal), room, len);
             policy_status(refusal)
         }
+    }
+}
+
+/// Compiles a policy as clusters store it, and puts its gate into the place, as `celbpf_gate_new`
+/// does. The text of a refusal is the line that the program `gatekeeper` prints.
+#[unsafe(no_mangle)]
+pub extern "C" fn celbpf_gate_new_wide(
+    alloc: Global,
+    place: &mut GatePlace,
+    policy: &[u8],
+    room: &mut [u8],
+    len: &mut usize,
+) -> u32
+    ensures { MakesWideGate policy.now place.old.gate place.new.gate result room.old room.new len.new }
+{
+    match boxed_wide_gate(alloc, policy) {
+        Ok(gate) => put_gate(place, gate, len),
+        Err(refusal) => write_wide_refusal(alloc, &refusal, room, len),
     }
 }
 
@@ -55,8 +71,8 @@ pub extern "C" fn celbpf_gate_decide(
 ) -> u32
     ensures kept { place.new.gate ≡ place.old.gate }
     ensures empty { place.old.gate ≡ None → (result ≡ 10) × Writes [] room.old room.new len.new }
-    ensures answers { (policy : List ℕ) → Holds policy place.old.gate
-        → Answers (image_held place.old.gate) (documents_of policy review.now namespace.now params.now) (steps_alone steps) result room.old room.new len.new }
+    ensures answers { (language : Language) (policy : List ℕ) → Holds language policy place.old.gate
+        → Answers (image_held place.old.gate) (documents_of language policy review.now namespace.now params.now) (steps_alone steps) result room.old room.new len.new }
 {
     let asked = Asked {
         review,
@@ -83,8 +99,8 @@ pub extern "C" fn celbpf_gate_decide_within(
 ) -> u32
     ensures kept { place.new.gate ≡ place.old.gate }
     ensures empty { place.old.gate ≡ None → (result ≡ 10) × Writes [] room.old room.new len.new }
-    ensures answers { (policy : List ℕ) → Holds policy place.old.gate
-        → Answers (image_held place.old.gate) (documents_of policy review.now namespace.now params.now) (record { steps = steps; reads = reads }) result room.old room.new len.new }
+    ensures answers { (language : Language) (policy : List ℕ) → Holds language policy place.old.gate
+        → Answers (image_held place.old.gate) (documents_of language policy review.now namespace.now params.now) (record { steps = steps; reads = reads }) result room.old room.new len.new }
 {
     let asked = Asked {
         review,
@@ -103,6 +119,16 @@ pub extern "C" fn celbpf_gate_free(alloc: Global, place: &mut GatePlace)
     drop(place.take(alloc));
 }
 
+/// Puts a gate into the place, with no text. Returns the status.
+fn put_gate(place: &mut GatePlace, gate: Box<Gate>, len: &mut usize) -> u32
+    ensures put { place.new.gate ≡ Some gate.value }
+    ensures done { (result ≡ 0) × (len.new ≡ 0) }
+{
+    place.put(gate);
+    *len = 0;
+    0
+}
+
 /// Compiles a policy to a gate on the heap.
 fn boxed_gate(alloc: Global, policy: &[u8]) -> Result<Box<Gate>, PolicyRefusal>
     ensures compiles { OpensGate policy.now (gate_view result) }
@@ -110,6 +136,17 @@ fn boxed_gate(alloc: Global, policy: &[u8]) -> Result<Box<Gate>, PolicyRefusal>
 {
     let gate = Gate::new(alloc, policy)?;
     Ok(boxed(alloc, gate)?)
+}
+
+/// Compiles a policy as clusters store it to a gate on the heap.
+fn boxed_wide_gate(alloc: Global, policy: &[u8]) -> Result<Box<Gate>, WideRefusal>
+    ensures { OpensStored policy.now (wide_gate_view result) }
+{
+    let opened = WideGate::new(alloc, policy, MessageRule::Required)?;
+    match boxed(alloc, opened.gate) {
+        Ok(gate) => Ok(gate),
+        Err(_) => Err(WideRefusal::Memory),
+    }
 }
 
 /// Moves a value to the heap. It is `Send`, because the caller may use or free it on another
@@ -133,8 +170,8 @@ fn decide(
 ) -> u32
     ensures kept { place.new.gate ≡ place.old.gate }
     ensures empty { place.old.gate ≡ None → (result ≡ 10) × Writes [] room.old room.new len.new }
-    ensures answers { (policy : List ℕ) → Holds policy place.old.gate
-        → Answers (image_held place.old.gate) (documents_asked policy asked.entry) asked.entry.limits result room.old room.new len.new }
+    ensures answers { (language : Language) (policy : List ℕ) → Holds language policy place.old.gate
+        → Answers (image_held place.old.gate) (documents_asked language policy asked.entry) asked.entry.limits result room.old room.new len.new }
 {
     *len = 0;
     let Some(held) = place.take(alloc) else {

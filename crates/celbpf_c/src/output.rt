@@ -1,12 +1,13 @@
 //! The output of a call: a status, and a text in the caller's buffer.
-ghost use Rattle.std.specs.Prelude.{◌≡◌, length, nat_le};
+ghost use Rattle.std.specs.Prelude.{◌≡◌, ◌⊎◌, length, nat_le};
 ghost use Rattle.cli.specs.Refusals.{refusal_line};
 ghost use Rattle.admission.specs.Deciding.{answer_view};
-ghost use Rattle.celbpf_c.specs.Output.{Writes, WritesDecision, WritesReply};
+ghost use Rattle.admission.specs.declared.wide_refusal.WideRefusal.TheVariants.{Memory};
+ghost use Rattle.celbpf_c.specs.Output.{Writes, WritesDecision, WritesReply, WritesWideRefusal};
 
-use crate::statuses::run_status;
-use admission::{Reply, RunError};
-use cli::{Refusal, refusal_line};
+use crate::statuses::{run_status, wide_status};
+use admission::{Reply, RunError, WideRefusal};
+use cli::{Refusal, refusal_line, wide_line};
 use std::alloc::Global;
 
 /// Writes the result of a review, its response or the line of its refusal, and returns the status.
@@ -46,6 +47,28 @@ pub fn write_refusal(alloc: Global, refusal: Refusal, room: &mut [u8], len: &mut
 {
     let line = refusal_line(alloc, refusal);
     write_text(line.as_slice(), room, len);
+}
+
+/// Writes the line of a refusal of a policy in the wide language, as the program `gatekeeper` prints
+/// it, or that memory ran out while it was made. Returns the status.
+pub fn write_wide_refusal(
+    alloc: Global,
+    refusal: &WideRefusal,
+    room: &mut [u8],
+    len: &mut usize,
+) -> u32
+    ensures { WritesWideRefusal refusal.now result room.old room.new len.new ⊎ WritesWideRefusal Memory result room.old room.new len.new }
+{
+    match wide_line(alloc, refusal) {
+        Ok(line) => {
+            write_text(line.as_slice(), room, len);
+            wide_status(refusal)
+        }
+        Err(_) => {
+            write_refusal(alloc, Refusal::Memory, room, len);
+            9
+        }
+    }
 }
 
 /// Writes the text to the beginning of the buffer and returns whether it fits. If it does not, the

@@ -1,8 +1,9 @@
 //! The statuses of refusals.
 ghost use Rattle.std.specs.Prelude.{◌≡◌};
-ghost use Rattle.celbpf_c.specs.Statuses.{policy_status, run_status};
+ghost use Rattle.celbpf_c.specs.Statuses.{policy_status, run_status, wide_policy_status, wide_status};
 
-use admission::{PolicyRefusal, RunError};
+use admission::{PolicyRefusal, RunError, WideRefusal};
+use wide_policy::WidePolicyError;
 
 /// The status of a call whose policy gives no image.
 pub fn policy_status(refusal: PolicyRefusal) -> u32
@@ -12,6 +13,29 @@ pub fn policy_status(refusal: PolicyRefusal) -> u32
         PolicyRefusal::Unread(_) => 2,
         PolicyRefusal::Uncompiled(_) => 3,
         PolicyRefusal::Memory => 9,
+    }
+}
+
+/// The status of a call whose policy in the wide language gives no image.
+pub fn wide_status(refusal: &WideRefusal) -> u32
+    ensures { result ≡ wide_status refusal.now }
+{
+    match refusal {
+        WideRefusal::Unread(error) => wide_policy_status(error),
+        WideRefusal::Uncompiled(_) => 3,
+        WideRefusal::Memory => 9,
+    }
+}
+
+/// The status of a call whose document is no policy in the wide language.
+fn wide_policy_status(error: &WidePolicyError) -> u32
+    ensures { result ≡ wide_policy_status error.now }
+{
+    match error {
+        WidePolicyError::Unread(_) => 2,
+        WidePolicyError::HasAuditAnnotations => 2,
+        WidePolicyError::InvalidExpression(_, _, _) => 3,
+        WidePolicyError::Memory => 9,
     }
 }
 

@@ -3,8 +3,11 @@
 use crate::gate_place::GatePlace;
 use crate::gates::{
     celbpf_gate_decide, celbpf_gate_decide_within, celbpf_gate_free, celbpf_gate_new,
+    celbpf_gate_new_wide,
 };
-use crate::without_gate::{celbpf_compile, celbpf_review, celbpf_review_within, celbpf_version};
+use crate::without_gate::{
+    celbpf_compile, celbpf_review, celbpf_review_wide, celbpf_review_within, celbpf_version,
+};
 
 const POLICY: &[u8] =
     br#"{"apiVersion":"admissionregistration.k8s.io/v1","kind":"ValidatingAdmissionPolicy","spec":{"validations":[{"expression":"object.n < 3"}]}}"#;
@@ -145,4 +148,75 @@ fn an_image_is_compiled(rt: HostRuntime) {
     let status = celbpf_compile(rt.alloc(), POLICY, &mut room, &mut len);
     assert_eq!(rt; (status, celbpf_version()), (0, 1));
     assert!(rt; room.starts_with(b"CELBPF02"));
+}
+
+/// A policy in the wide language, and its response to a review without `n`.
+const WIDE: &[u8] =
+    br#"{"apiVersion":"admissionregistration.k8s.io/v1","kind":"ValidatingAdmissionPolicy","spec":{"validations":[{"expression":"object.?m.orValue(3) < 3"}]}}"#;
+
+const WIDE_RESPONSE: &[u8] =
+    br#"{"apiVersion":"admission.k8s.io/v1","kind":"AdmissionReview","response":{"allowed":false,"status":{"code":422,"message":"failed expression: object.?m.orValue(3) < 3","reason":"Invalid"},"uid":"u1"}}"#;
+
+/// Its message expression has no translation.
+const UNTOLD: &[u8] =
+    br#"{"apiVersion":"admissionregistration.k8s.io/v1","kind":"ValidatingAdmissionPolicy","spec":{"validations":[{"expression":"true","messageExpression":"url('a')"}]}}"#;
+
+#[test]
+fn a_wide_gate_decides(rt: HostRuntime) {
+    let mut place = GatePlace::empty(rt.alloc());
+    let mut room = [0u8; 256];
+    let mut len = 9;
+    let made = celbpf_gate_new(rt.alloc(), &mut place, WIDE, &mut room, &mut len);
+    assert_eq!(rt; made, 3);
+    assert!(rt; room.get(..len) == Some(&b"celbpf: K6 validation 0 P4 at 7\n"[..]));
+    let made = celbpf_gate_new_wide(rt.alloc(), &mut place, WIDE, &mut room, &mut len);
+    assert_eq!(rt; (made, len), (0, 0));
+    let status = celbpf_gate_decide(
+        rt.alloc(),
+        &mut place,
+        REVIEW,
+        b"",
+        b"",
+        STEPS,
+        &mut room,
+        &mut len,
+    );
+    assert_eq!(rt; status, 1);
+    assert!(rt; room.get(..len) == Some(WIDE_RESPONSE));
+    let made = celbpf_gate_new_wide(rt.alloc(), &mut place, UNTOLD, &mut room, &mut len);
+    assert_eq!(rt; made, 3);
+    assert!(rt; room.get(..len) == Some(&b"celbpf: K6 message 0 W5 url\n"[..]));
+    drop(place.into_gate());
+}
+
+#[test]
+fn a_review_is_decided_by_a_wide_policy(rt: HostRuntime) {
+    let mut room = [0u8; 256];
+    let mut len = 0;
+    let status = celbpf_review_wide(
+        rt.alloc(),
+        WIDE,
+        REVIEW,
+        b"",
+        b"",
+        STEPS,
+        1000,
+        &mut room,
+        &mut len,
+    );
+    assert_eq!(rt; status, 1);
+    assert!(rt; room.get(..len) == Some(WIDE_RESPONSE));
+    let status = celbpf_review_wide(
+        rt.alloc(),
+        b"{}",
+        REVIEW,
+        b"",
+        b"",
+        STEPS,
+        1000,
+        &mut room,
+        &mut len,
+    );
+    assert_eq!(rt; status, 2);
+    assert!(rt; room.get(..len) == Some(&b"celbpf: K2\n"[..]));
 }

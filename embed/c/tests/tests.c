@@ -1,6 +1,6 @@
 /*
- * tests FOLDER: the policies below FOLDER, each with its reviews, through every call; then small rooms, null pointers,
- * refusals, threads and small stacks. Prints what is not as it is to be, and a last line; the status is 1 if anything is.
+ * tests FOLDER: the policies below FOLDER, each with its reviews, through every call, in both languages; then small rooms,
+ * null pointers, refusals, the wide language, threads and small stacks. Prints what is not as it is to be, and a last line; the status is 1 if anything is.
  */
 #define _GNU_SOURCE
 #include "files.h"
@@ -34,6 +34,22 @@ struct example {
 
 static char room[1 << 20];
 
+/* Whether policies are read as clusters store them. The examples are decided alike. */
+static int is_wide;
+
+static uint32_t make_gate(celbpf_gate *gate, const char *at, size_t at_len, size_t *len) {
+    return (is_wide ? celbpf_gate_new_wide_checked : celbpf_gate_new_checked)(gate, at, at_len, room, sizeof room, len);
+}
+
+static uint32_t decide_alone(const struct text *by, const struct text *asked, const struct text *ns,
+                             const struct text *params, size_t *len) {
+    if (is_wide)
+        return celbpf_review_wide_checked(by->at, by->len, asked->at, asked->len, ns->at, ns->len, params->at, params->len,
+                                          CELBPF_STEPS, CELBPF_READS, room, sizeof room, len);
+    return celbpf_review_checked(by->at, by->len, asked->at, asked->len, ns->at, ns->len, params->at, params->len,
+                                 CELBPF_STEPS, room, sizeof room, len);
+}
+
 /* What is to be in a room whose other bytes were 'x'. */
 static int is_response(const struct example *of, size_t len) {
     return len == of->len && !memcmp(room, of->response, len) && room[len] == 'x';
@@ -48,10 +64,7 @@ static void check_decision(celbpf_gate *gate, const struct example *of, const ch
           "status of decide", name);
     check(is_response(of, len), "response of decide", name);
     memset(room, 'x', sizeof of->response);
-    check(celbpf_review_checked(of->policy.at, of->policy.len, of->review.at, of->review.len, of->namespace.at,
-                                of->namespace.len, of->params.at, of->params.len, CELBPF_STEPS, room, sizeof room,
-                                &len) == wanted,
-          "status of review", name);
+    check(decide_alone(&of->policy, &of->review, &of->namespace, &of->params, &len) == wanted, "status of review", name);
     check(is_response(of, len), "response of review", name);
 }
 
@@ -95,7 +108,7 @@ static size_t check_folder(celbpf_gate *gate, const char *folder) {
     size_t len;
     glob_t found;
     of.policy = text_in(folder, "policy.json");
-    check(celbpf_gate_new_checked(gate, of.policy.at, of.policy.len, NULL, 0, &len) == CELBPF_DONE && len == 0, "new", folder);
+    check(make_gate(gate, of.policy.at, of.policy.len, &len) == CELBPF_DONE && len == 0, "new", folder);
     check(celbpf_compile_checked(of.policy.at, of.policy.len, room, sizeof room, &len) == CELBPF_DONE &&
               !memcmp(room, "CELBPF02", 8),
           "compile", folder);
@@ -205,6 +218,54 @@ static void check_refusals(void) {
     celbpf_gate_free(&gate);
 }
 
+/* ---- the wide language */
+
+#define HEAD "{\"apiVersion\":\"admissionregistration.k8s.io/v1\",\"kind\":\"ValidatingAdmissionPolicy\",\"spec\":"
+
+/* The status, and the line, of a policy of this specification. */
+static void check_wide_refusal(const char *spec, uint32_t status, const char *line) {
+    celbpf_gate gate = {0};
+    char text[4096];
+    size_t len;
+    snprintf(text, sizeof text, HEAD "%s}", spec);
+    is_wide = 1;
+    check(make_gate(&gate, text, strlen(text), &len) == status && is_text(room, len, line) && !gate.held, line, "new wide");
+    struct text by = {text, strlen(text)}, none = {NULL, 0};
+    check(decide_alone(&by, &review, &none, &none, &len) == status && is_text(room, len, line), line, "review wide");
+}
+
+static void check_wide(void) {
+    static const char optional[] = HEAD "{\"validations\":[{\"expression\":\"object.?spec.?replicas.orValue(1) <= 3\"}]}}";
+    static const char message[] = "\"message\":\"failed expression: object.?spec.?replicas.orValue(1) <= 3\"";
+    celbpf_gate gate = {0};
+    char line[CELBPF_LINE], named[512], name[101];
+    size_t len;
+    check(celbpf_gate_new_checked(&gate, optional, sizeof optional - 1, room, sizeof room, &len) == CELBPF_POLICY_UNCOMPILED &&
+              is_text(room, len, "celbpf: K6 validation 0 P4 at 7\n"),
+          "an optional", "new");
+    check(celbpf_gate_new_wide_checked(&gate, optional, sizeof optional - 1, NULL, 0, NULL) == CELBPF_DONE, "an optional",
+          "new wide");
+    check(decide(&gate, sizeof room, &len) == CELBPF_DENIED, "an optional", "decide");
+    room[len] = 0;
+    check(strstr(room, message) != NULL, "the text of the author", "decide");
+    celbpf_gate_free(&gate);
+    check(celbpf_gate_new_wide_checked(NULL, optional, sizeof optional - 1, NULL, 0, NULL) == CELBPF_EMPTY, "no place",
+          "new wide");
+    check_wide_refusal("{}", CELBPF_POLICY_UNREAD, "celbpf: K3\n");
+    check_wide_refusal("{\"auditAnnotations\":[],\"validations\":[]}", CELBPF_POLICY_UNREAD, "celbpf: K3 auditAnnotations\n");
+    check_wide_refusal("{\"validations\":[{\"expression\":\"true\"},{\"expression\":\"url('a')\"}]}", CELBPF_POLICY_UNCOMPILED,
+                       "celbpf: K6 validation 1 W5 url\n");
+    check_wide_refusal("{\"validations\":[{\"expression\":\"1\"}]}", CELBPF_POLICY_UNCOMPILED, "celbpf: K7\n");
+    /* a line that is longer than CELBPF_LINE */
+    memset(name, 'a', 100);
+    name[100] = 0;
+    snprintf(named, sizeof named, HEAD "{\"validations\":[{\"expression\":\"%s\"}]}}", name);
+    memset(line, 'x', sizeof line);
+    check(celbpf_gate_new_wide_checked(&gate, named, strlen(named), line, sizeof line, &len) == CELBPF_POLICY_UNCOMPILED &&
+              len == strlen("celbpf: K6 validation 0 W5 \n") + 100 && line[0] == 'x',
+          "a long name", "new wide");
+}
+
 /* ---- threads */
 
 /* A gate that moves through threads, one at a time. */
@@ -261,42 +322,63 @@ static void check_threads(void) {
 
 /* ---- stacks */
 
-/* A policy whose expression is 4,095 negations, which takes most stack to read. It has too many nodes, so it is refused. */
-static struct text hostile_policy(void) {
+/* A policy that takes much stack to read: its expression is a text, another one so often, and a last one. */
+static struct text hostile_policy(const char *first, const char *part, size_t count, const char *last) {
     static const char head[] = "{\"apiVersion\":\"admissionregistration.k8s.io/v1\",\"kind\":\"ValidatingAdmissionPolicy\","
                                "\"metadata\":{\"name\":\"hostile\"},\"spec\":{\"validations\":[{\"expression\":\"";
-    static const char tail[] = "true\"}]}}";
-    size_t head_len = sizeof head - 1, count = 4095;
-    struct text made = {malloc(sizeof head + count + sizeof tail), head_len + count + sizeof tail - 1};
-    memcpy(made.at, head, head_len);
-    memset(made.at + head_len, '!', count);
-    memcpy(made.at + head_len + count, tail, sizeof tail);
+    static const char tail[] = "\"}]}}";
+    struct text made = {malloc(sizeof head + sizeof tail + 65536), 0};
+    char *at = stpcpy(stpcpy(made.at, head), first);
+    while (count--)
+        at = stpcpy(at, part);
+    made.len = stpcpy(stpcpy(at, last), tail) - made.at;
     return made;
 }
 
-/* The status of the policy, of which `is_checked` tells how it is compiled. */
-static void *make(const struct text *made, int is_checked) {
+typedef uint32_t new_gate(celbpf_gate *gate, const uint8_t *at, size_t n, uint8_t *line, size_t line_len, size_t *len);
+
+/* A policy, the call that makes its gate, and the line of its refusal. */
+struct hostile {
+    struct text policy;
+    new_gate *run;
+    const char *line;
+};
+
+static uint32_t checked(celbpf_gate *gate, const uint8_t *at, size_t n, uint8_t *line, size_t line_len, size_t *len) {
+    return celbpf_gate_new_checked(gate, at, n, line, line_len, len);
+}
+
+static uint32_t wide_checked(celbpf_gate *gate, const uint8_t *at, size_t n, uint8_t *line, size_t line_len, size_t *len) {
+    return celbpf_gate_new_wide_checked(gate, at, n, line, line_len, len);
+}
+
+static void *is_refused(void *given) {
+    struct hostile *of = given;
     celbpf_gate gate = {0};
     uint8_t line[CELBPF_LINE];
     size_t len;
-    uint32_t status = is_checked ? celbpf_gate_new_checked(&gate, made->at, made->len, line, sizeof line, &len)
-                                 : celbpf_gate_new(&gate, (const uint8_t *)made->at, made->len, line, sizeof line, &len);
+    uint32_t status = of->run(&gate, (const uint8_t *)of->policy.at, of->policy.len, line, sizeof line, &len);
     celbpf_gate_free(&gate);
-    return (void *)(uintptr_t)(is_text((char *)line, len, "celbpf: G3\n") ? status : CELBPF_STACK);
+    return (void *)(uintptr_t)(status == CELBPF_POLICY_UNCOMPILED && is_text((char *)line, len, of->line));
 }
 
-static void *make_checked(void *given) { return make(given, 1); }
-
-static void *make_plain(void *given) { return make(given, 0); }
-
+/* The policies of either language that take most stack to read: they have too many nodes, or a text that is too long. */
 static void check_stacks(void) {
-    struct text made = hostile_policy();
-    size_t small = (size_t)1 << 20, enough = CELBPF_NEW_STACK + small;
-    check((uintptr_t)on_thread(small, make_checked, &made) == CELBPF_POLICY_UNCOMPILED, "1 MB of stack", "a hostile policy");
-    check((uintptr_t)on_thread(enough, make_plain, &made) == CELBPF_POLICY_UNCOMPILED, "7 MB of stack", "a hostile policy");
-    size_t left = celbpf_stack_left();
-    check(left >= CELBPF_DECIDE_STACK, "this thread's", "celbpf_stack_left");
-    free(made.at);
+    size_t small = (size_t)1 << 20;
+    struct text negations = hostile_policy("", "!", 4095, "true"), fields = hostile_policy("object", ".a", 2044, "");
+    struct text sums = hostile_policy("", "1+", 2045, "1 == 1");
+    struct hostile all[] = {
+        {negations, checked, "celbpf: G3\n"}, {fields, wide_checked, "celbpf: G3\n"},
+        {sums, wide_checked, "celbpf: K6 validation 0 P6\n"},
+    };
+    new_gate *plain[] = {celbpf_gate_new, celbpf_gate_new_wide, celbpf_gate_new_wide};
+    for (size_t n = 0; n < 3; n++) {
+        check(on_thread(small, is_refused, &all[n]) != NULL, "1 MB of stack", all[n].line);
+        all[n].run = plain[n];
+        check(on_thread((n ? CELBPF_WIDE_STACK : CELBPF_NEW_STACK) + small, is_refused, &all[n]) != NULL, "a MB more", all[n].line);
+        free(all[n].policy.at);
+    }
+    check(celbpf_stack_left() >= CELBPF_DECIDE_STACK, "this thread's", "celbpf_stack_left");
 }
 
 int main(int argc, char **argv) {
@@ -307,10 +389,13 @@ int main(int argc, char **argv) {
     snprintf(folder, sizeof folder, "%s/replicas", examples);
     policy = text_in(folder, "policy.json");
     review = text_in(folder, "five.review.json");
-    size_t count = check_examples();
+    size_t count = 0;
+    for (is_wide = 0; is_wide < 2; is_wide++)
+        count += check_examples();
     check(count > 0, "there are reviews", examples);
     check_rooms();
     check_refusals();
+    check_wide();
     check_threads();
     check_stacks();
     free(policy.at);

@@ -1,12 +1,12 @@
 // Package celbpf decides Kubernetes admission in process, under ValidatingAdmissionPolicies.
 //
 // A [Gate] is a policy that is compiled once. It decides any number of reviews, one at a time; a [Pool] of gates decides
-// many at once. The decisions are those of the program celbpf, byte for byte: both are the same proved code. This
-// package is a thin layer over it, and is not proved.
+// many at once. The decisions are those of the program gatekeeper, byte for byte: both are the same proved code. This
+// package is a thin layer over it, and is not proved. A policy is read as clusters store it, unless a [Language] is given.
 //
 //	gate, err := celbpf.New(policy)
 //	if err != nil {
-//		return err // "celbpf: K6 validation 0 P4 at 13"
+//		return err // "celbpf: K6 validation 0 W5 url"
 //	}
 //	defer gate.Close()
 //	response, err := gate.Decide(celbpf.Request{Review: review})
@@ -40,7 +40,7 @@ import (
 const DefaultSteps = 10_000_000
 
 // DefaultReads is how many bytes the helper calls of a policy's program may read together if [Request.Reads] is 0.
-const DefaultReads = 268_435_456
+const DefaultReads = 16_777_216
 
 // firstRoom is the room for a response at the first try. Most are shorter.
 const firstRoom = 4096
@@ -67,6 +67,16 @@ type Response struct {
 	JSON []byte
 }
 
+// Language is how a policy is read.
+type Language int
+
+const (
+	// Wide: as clusters store it, and as the program gatekeeper reads it.
+	Wide Language = iota
+	// Profile: the language that is compiled, as the program celbpf reads it.
+	Profile
+)
+
 // Gate is a policy that is compiled once. Calls on a gate wait for one another.
 type Gate struct {
 	mutex sync.Mutex
@@ -76,15 +86,32 @@ type Gate struct {
 
 // New compiles a policy, a ValidatingAdmissionPolicy (admissionregistration.k8s.io/v1) as JSON. The error is a
 // [*Refusal]. Close frees the gate; a gate that is not closed is freed once nothing refers to it.
-func New(policy []byte) (*Gate, error) {
+func New(policy []byte) (*Gate, error) { return NewIn(Wide, policy) }
+
+// NewIn compiles a policy that is read in this language. See [New].
+func NewIn(language Language, policy []byte) (*Gate, error) {
 	gate := &Gate{room: make([]byte, firstRoom)}
-	var size C.size_t
-	status := C.celbpf_gate_new_checked(&gate.place, pointer(policy), C.size_t(len(policy)), pointer(gate.room), C.size_t(len(gate.room)), &size)
-	if status != C.CELBPF_DONE {
-		return nil, refused(status, gate.room, size)
+	for {
+		var size C.size_t
+		status := gate.make(language, policy, &size)
+		switch {
+		case status == C.CELBPF_DONE:
+			runtime.SetFinalizer(gate, (*Gate).Close)
+			return gate, nil
+		case int(size) <= len(gate.room):
+			return nil, refused(status, gate.room, size)
+		}
+		// the line of the refusal is longer
+		gate.room = make([]byte, size)
 	}
-	runtime.SetFinalizer(gate, (*Gate).Close)
-	return gate, nil
+}
+
+func (gate *Gate) make(language Language, policy []byte, size *C.size_t) C.uint32_t {
+	text, count, room, length := pointer(policy), C.size_t(len(policy)), pointer(gate.room), C.size_t(len(gate.room))
+	if language == Profile {
+		return C.celbpf_gate_new_checked(&gate.place, text, count, room, length, size)
+	}
+	return C.celbpf_gate_new_wide_checked(&gate.place, text, count, room, length, size)
 }
 
 // Decide decides a request. An error is a [*Refusal], and no decision.
@@ -113,22 +140,35 @@ func (gate *Gate) Close() {
 }
 
 // Review decides a request under a policy that is compiled for this call alone. Any goroutine may call it at any time.
-func Review(policy []byte, request Request) (Response, error) {
+func Review(policy []byte, request Request) (Response, error) { return ReviewIn(Wide, policy, request) }
+
+// ReviewIn decides a request under such a policy, which is read in this language.
+func ReviewIn(language Language, policy []byte, request Request) (Response, error) {
 	room := make([]byte, firstRoom)
 	for {
 		var size C.size_t
-		status := C.celbpf_review_within_checked(pointer(policy), C.size_t(len(policy)),
-			pointer(request.Review), C.size_t(len(request.Review)), pointer(request.Namespace), C.size_t(len(request.Namespace)),
-			pointer(request.Params), C.size_t(len(request.Params)), steps(request), reads(request),
-			pointer(room), C.size_t(len(room)), &size)
-		if status != C.CELBPF_ROOM {
+		status := reviewed(language, policy, request, room, &size)
+		if int(size) <= len(room) {
 			return answer(status, room, size)
 		}
 		room = make([]byte, size)
 	}
 }
 
-// Compile compiles a policy to the file of its image, which `celbpf debug` takes.
+func reviewed(language Language, policy []byte, request Request, room []byte, size *C.size_t) C.uint32_t {
+	if language == Profile {
+		return C.celbpf_review_within_checked(pointer(policy), C.size_t(len(policy)),
+			pointer(request.Review), C.size_t(len(request.Review)), pointer(request.Namespace), C.size_t(len(request.Namespace)),
+			pointer(request.Params), C.size_t(len(request.Params)), steps(request), reads(request),
+			pointer(room), C.size_t(len(room)), size)
+	}
+	return C.celbpf_review_wide_checked(pointer(policy), C.size_t(len(policy)),
+		pointer(request.Review), C.size_t(len(request.Review)), pointer(request.Namespace), C.size_t(len(request.Namespace)),
+		pointer(request.Params), C.size_t(len(request.Params)), steps(request), reads(request),
+		pointer(room), C.size_t(len(room)), size)
+}
+
+// Compile compiles a policy of the language [Profile] to the file of its image, as `celbpf compile` does.
 func Compile(policy []byte) ([]byte, error) {
 	room := make([]byte, firstRoom)
 	for {

@@ -3,7 +3,6 @@ package celbpf
 import (
 	"bytes"
 	"errors"
-	"fmt"
 	"os"
 	"path/filepath"
 	"strings"
@@ -61,15 +60,17 @@ func check(t *testing.T, of example, response Response, err error) {
 
 func TestExamples(t *testing.T) {
 	for _, of := range allExamples(t) {
-		gate, err := New(of.policy)
-		if err != nil {
-			t.Fatal(of.name, err)
+		for _, language := range []Language{Wide, Profile} {
+			gate, err := NewIn(language, of.policy)
+			if err != nil {
+				t.Fatal(of.name, err)
+			}
+			response, err := gate.Decide(of.request)
+			check(t, of, response, err)
+			response, err = ReviewIn(language, of.policy, of.request)
+			check(t, of, response, err)
+			gate.Close()
 		}
-		response, err := gate.Decide(of.request)
-		check(t, of, response, err)
-		response, err = Review(of.policy, of.request)
-		check(t, of, response, err)
-		gate.Close()
 	}
 	t.Log(len(allExamples(t)), "reviews")
 }
@@ -160,6 +161,45 @@ func TestRefusals(t *testing.T) {
 	}
 }
 
+// ofExpression is a policy with this expression.
+func ofExpression(text string) []byte {
+	return []byte(`{"apiVersion":"admissionregistration.k8s.io/v1","kind":"ValidatingAdmissionPolicy",` +
+		`"spec":{"validations":[{"expression":"` + text + `"}]}}`)
+}
+
+func TestWide(t *testing.T) {
+	policy := ofExpression("object.?spec.?replicas.orValue(1) <= 3")
+	request := Request{Review: first(examples + "/replicas/five.review.json")}
+	gate, err := New(policy)
+	if err != nil {
+		t.Fatal(err)
+	}
+	defer gate.Close()
+	response, err := gate.Decide(request)
+	message := []byte(`"message":"failed expression: object.?spec.?replicas.orValue(1) <= 3"`)
+	if err != nil || response.Allowed || !bytes.Contains(response.JSON, message) {
+		t.Error(response.Allowed, string(response.JSON), err)
+	}
+	if alone, err := Review(policy, request); err != nil || !bytes.Equal(alone.JSON, response.JSON) {
+		t.Error(string(alone.JSON), err)
+	}
+	long := strings.Repeat("a", 5000)
+	for language, lines := range map[Language]map[string]string{
+		Wide:    {"url('a')": "celbpf: K6 validation 0 W5 url", long: "celbpf: K6 validation 0 W5 " + long},
+		Profile: {"object.?spec.hasValue()": "celbpf: K6 validation 0 P4 at 7"},
+	} {
+		for text, line := range lines {
+			var refusal *Refusal
+			if _, err := NewPoolIn(language, ofExpression(text), 2); !errors.As(err, &refusal) || refusal.Line != line {
+				t.Error(line, err)
+			}
+			if _, err := ReviewIn(language, ofExpression(text), request); !errors.Is(err, PolicyUncompiled) {
+				t.Error(line, err)
+			}
+		}
+	}
+}
+
 func TestCompile(t *testing.T) {
 	of := allExamples(t)[0]
 	image, err := Compile(of.policy)
@@ -171,23 +211,20 @@ func TestCompile(t *testing.T) {
 	}
 }
 
-// hostile is a policy that takes the most stack to read, and has too many nodes.
-func hostile() []byte {
-	return []byte(fmt.Sprintf(`{"apiVersion":"admissionregistration.k8s.io/v1","kind":"ValidatingAdmissionPolicy",`+
-		`"metadata":{"name":"hostile"},"spec":{"validations":[{"expression":"%strue"}]}}`, strings.Repeat("!", 4095)))
-}
+// hostile has expressions that take the most stack to read in each language, and have too many nodes.
+var hostile = []string{Wide: "object" + strings.Repeat(".a", 2044), Profile: strings.Repeat("!", 4095) + "true"}
 
 func TestHostilePolicy(t *testing.T) {
 	var wait sync.WaitGroup
 	for n := 0; n < 16; n++ {
 		wait.Add(1)
-		go func() {
+		go func(language Language) {
 			defer wait.Done()
 			var refusal *Refusal
-			if _, err := New(hostile()); !errors.As(err, &refusal) || refusal.Line != "celbpf: G3" {
+			if _, err := NewIn(language, ofExpression(hostile[language])); !errors.As(err, &refusal) || refusal.Line != "celbpf: G3" {
 				t.Error(err)
 			}
-		}()
+		}(Language(n % 2))
 	}
 	wait.Wait()
 }

@@ -13,13 +13,16 @@ type Pool struct {
 
 // NewPool compiles a policy into this many gates, or one for each processor that Go uses if size is 0 or less. The
 // error is a [*Refusal].
-func NewPool(policy []byte, size int) (*Pool, error) {
+func NewPool(policy []byte, size int) (*Pool, error) { return NewPoolIn(Wide, policy, size) }
+
+// NewPoolIn compiles a policy that is read in this language. See [NewPool].
+func NewPoolIn(language Language, policy []byte, size int) (*Pool, error) {
 	if size <= 0 {
 		size = runtime.GOMAXPROCS(0)
 	}
 	pool := &Pool{gates: make(chan *Gate, size)}
 	for n := 0; n < size; n++ {
-		gate, err := New(policy)
+		gate, err := NewIn(language, policy)
 		if err != nil {
 			pool.free(len(pool.gates))
 			return nil, err

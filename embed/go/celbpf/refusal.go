@@ -52,7 +52,8 @@ func (status Status) Error() string {
 // Refusal is why there is no gate, or no decision.
 type Refusal struct {
 	Status Status
-	// Line is what the program celbpf prints, as "celbpf: K6 validation 0 P4 at 13", or empty if it prints nothing.
+	// Line is what the program gatekeeper prints, or celbpf for a policy of the language Profile, as
+	// "celbpf: K6 validation 0 P4 at 13", or empty if they print nothing.
 	Line string
 }
 

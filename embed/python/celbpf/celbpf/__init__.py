@@ -6,7 +6,8 @@
             print(response.json)
 
 Documents are bytes of JSON. A `Refused` is raised if there is no decision. The decisions are those of the program
-celbpf, byte for byte: both are the same proved code. This package is a thin layer over it, and is not proved.
+gatekeeper, byte for byte: both are the same proved code. With `profile=True` a policy is read, and decides, as by the
+program celbpf. This package is a thin layer over them, and is not proved.
 """
 
 from .gate import DEFAULT_READS, DEFAULT_STEPS, Gate, Response, compile_policy, review

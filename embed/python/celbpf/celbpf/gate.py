@@ -8,7 +8,7 @@ from .library import DONE, LIBRARY, Place, called
 
 # the steps that a policy's program may take, and the bytes that its helper calls may read together
 DEFAULT_STEPS = 10_000_000
-DEFAULT_READS = 268_435_456
+DEFAULT_READS = 16_777_216
 
 
 class Response(NamedTuple):
@@ -26,11 +26,13 @@ def documents(*given: Optional[bytes]) -> list:
 class Gate:
     """A policy that is compiled once. Calls on one gate wait for one another; other threads run meanwhile."""
 
-    def __init__(self, policy: bytes):
-        """Compiles a ValidatingAdmissionPolicy. Raises `Refused`."""
+    def __init__(self, policy: bytes, profile: bool = False):
+        """Compiles a ValidatingAdmissionPolicy, which is read as clusters store it, or with `profile` as the program celbpf
+        reads it. Raises `Refused`."""
         self._place = Place()
         self._lock = threading.Lock()
-        called(lambda *room: LIBRARY.celbpf_gate_new_checked(ctypes.byref(self._place), *documents(policy), *room))
+        make = LIBRARY.celbpf_gate_new_checked if profile else LIBRARY.celbpf_gate_new_wide_checked
+        called(lambda *room: make(ctypes.byref(self._place), *documents(policy), *room))
 
     def decide(
         self,
@@ -71,13 +73,15 @@ def review(
     params: Optional[bytes] = None,
     steps: int = DEFAULT_STEPS,
     reads: int = DEFAULT_READS,
+    profile: bool = False,
 ) -> Response:
-    """Decides a review under a policy that is compiled for this call alone. Raises `Refused`."""
+    """Decides a review under a policy that is compiled for this call alone, and read as `Gate` reads it. Raises `Refused`."""
     given = documents(policy, document, namespace, params)
-    status, text = called(lambda *room: LIBRARY.celbpf_review_within_checked(*given, steps, reads, *room))
+    decide = LIBRARY.celbpf_review_within_checked if profile else LIBRARY.celbpf_review_wide_checked
+    status, text = called(lambda *room: decide(*given, steps, reads, *room))
     return Response(status == DONE, text)
 
 
 def compile_policy(policy: bytes) -> bytes:
-    """Compiles a policy to the file of its image, which `celbpf debug` takes. Raises `Refused`."""
+    """Compiles a policy to the file of its image, as `celbpf compile` does, for `celbpf debug`. Raises `Refused`."""
     return called(lambda *room: LIBRARY.celbpf_compile_checked(*documents(policy), *room))[1]

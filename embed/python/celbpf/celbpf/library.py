@@ -9,7 +9,7 @@ from .refusal import Refused, Status
 
 NAME = "libcelbpf.so.1"
 VERSION = 1
-DONE, DENIED, ROOM = 0, 1, 8
+DONE, DENIED = 0, 1
 FIRST_ROOM = 4096
 
 
@@ -33,9 +33,11 @@ def loaded() -> ctypes.CDLL:
     reviewed = [*document, *document, *document, ctypes.c_uint64, ctypes.c_uint64, *written]
     for name, takes, gives in (
         ("celbpf_gate_new_checked", [place, *document, *written], status),
+        ("celbpf_gate_new_wide_checked", [place, *document, *written], status),
         ("celbpf_gate_decide_within_checked", [place, *reviewed], status),
         ("celbpf_gate_free", [place], None),
         ("celbpf_review_within_checked", [*document, *reviewed], status),
+        ("celbpf_review_wide_checked", [*document, *reviewed], status),
         ("celbpf_compile_checked", [*document, *written], status),
         ("celbpf_version", [], status),
     ):
@@ -55,10 +57,11 @@ def called(call: Callable, room_size: int = FIRST_ROOM) -> Tuple[int, bytes]:
     while True:
         room = ctypes.create_string_buffer(room_size)
         status = call(room, room_size, ctypes.byref(length))
-        if status != ROOM:
+        # the line of a refusal may be longer than the room, too
+        if length.value <= room_size:
             break
         room_size = length.value
     text = room.raw[: length.value]
     if status > DENIED:
-        raise Refused(Status(status), text.decode("ascii").rstrip("\n"))
+        raise Refused(Status(status), text.decode().rstrip("\n"))
     return status, text

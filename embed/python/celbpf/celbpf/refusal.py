@@ -33,7 +33,8 @@ TEXTS = {
 
 
 class Refused(Exception):
-    """There is no gate, or no decision. `line` is what the program celbpf prints, or empty if it prints nothing."""
+    """There is no gate, or no decision. `line` is what the program gatekeeper prints, or celbpf for the profile, or
+    empty if they print nothing."""
 
     def __init__(self, status: Status, line: str):
         super().__init__(f"{line or 'celbpf'}: {TEXTS[status]}")

@@ -9,10 +9,17 @@ from typing import Iterator, Optional, Tuple
 from celbpf import Gate, Refused, Response, Status, compile_policy, review
 
 EXAMPLES = Path(os.environ.get("CELBPF_EXAMPLES") or Path(__file__).parents[4] / "examples" / "policies")
-# it takes the most stack to read, and has too many nodes
-HOSTILE = (
-    b'{"apiVersion":"admissionregistration.k8s.io/v1","kind":"ValidatingAdmissionPolicy","metadata":{"name":"hostile"},'
-    b'"spec":{"validations":[{"expression":"' + b"!" * 4095 + b'true"}]}}'
+
+
+# an optional, and a function that has no translation
+HEAD = b'{"apiVersion":"admissionregistration.k8s.io/v1","kind":"ValidatingAdmissionPolicy","spec":{"validations":['
+# they take the most stack to read, in either language, and have too many nodes
+HOSTILE = HEAD + b'{"expression":"' + b"!" * 4095 + b'true"}]}}'
+WIDE_HOSTILE = HEAD + b'{"expression":"object' + b".a" * 2044 + b'"}]}}'
+OPTIONAL = HEAD + b'{"expression":"object.?spec.?replicas.orValue(1) <= 3"}]}}'
+UNKNOWN = HEAD + b"{\"expression\":\"url('a')\"}]}}"
+REVIEW = (
+    b'{"apiVersion":"admission.k8s.io/v1","kind":"AdmissionReview","request":{"uid":"u","object":{"spec":{"replicas":%d}}}}'
 )
 
 
@@ -34,10 +41,11 @@ class Examples(unittest.TestCase):
     def test_every_response(self) -> None:
         count = 0
         for folder, policy, given, wanted in cases():
-            with self.subTest(folder.name), Gate(policy) as gate:
-                self.assertEqual(gate.decide(*given), wanted)
-                self.assertEqual(review(policy, *given), wanted)
-                count += 1
+            for profile in (False, True):
+                with self.subTest(folder.name, profile=profile), Gate(policy, profile) as gate:
+                    self.assertEqual(gate.decide(*given), wanted)
+                    self.assertEqual(review(policy, *given, profile=profile), wanted)
+            count += 1
         self.assertGreater(count, 0)
         print(f"{count} reviews")
 
@@ -68,7 +76,8 @@ class Edges(unittest.TestCase):
     def test_refusals(self) -> None:
         self.refused(Status.POLICY_UNREAD, "celbpf: K1", Gate, b"")
         self.refused(Status.POLICY_UNREAD, "celbpf: K2", compile_policy, b"{}")
-        self.refused(Status.POLICY_UNREAD, "celbpf: N1 K2", review, b"[]", self.given[0])
+        self.refused(Status.POLICY_UNREAD, "celbpf: K2", review, b"[]", self.given[0])
+        self.refused(Status.POLICY_UNREAD, "celbpf: N1 K2", review, b"[]", self.given[0], profile=True)
         gate = Gate(self.policy)
         self.refused(Status.REVIEW_REFUSED, "celbpf: N2", gate.decide, b"{")
         self.refused(Status.DOCUMENT_REFUSED, "celbpf: N3", gate.decide, self.given[0], params=b"[")
@@ -80,6 +89,23 @@ class Edges(unittest.TestCase):
         gate.close()
         self.refused(Status.CLOSED, "", gate.decide, self.given[0])
 
+    def test_wide(self) -> None:
+        with Gate(OPTIONAL) as gate:
+            self.assertTrue(gate.decide(REVIEW % 3).allowed)
+            denied = gate.decide(REVIEW % 4)
+        self.assertEqual(denied, review(OPTIONAL, REVIEW % 4))
+        self.assertIn(b'"message":"failed expression: object.?spec.?replicas.orValue(1) <= 3"', denied.json)
+        for call in (Gate, lambda policy, **names: review(policy, REVIEW % 4, **names)):
+            self.refused(Status.POLICY_UNCOMPILED, "celbpf: K6 validation 0 W5 url", call, UNKNOWN)
+        self.refused(Status.POLICY_UNCOMPILED, "celbpf: K6 validation 0 P4 at 7", Gate, OPTIONAL, profile=True)
+        self.refused(Status.POLICY_UNCOMPILED, "celbpf: N1 K6 validation 0 P4 at 7", review, OPTIONAL, REVIEW % 4, profile=True)
+
+    def test_a_long_line(self) -> None:
+        name = b"a" * 5000
+        policy = HEAD + b'{"expression":"' + name + b'"}]}}'
+        for call in (Gate, lambda policy: review(policy, REVIEW % 4)):
+            self.refused(Status.POLICY_UNCOMPILED, f"celbpf: K6 validation 0 W5 {name.decode()}", call, policy)
+
     def test_image(self) -> None:
         self.assertTrue(compile_policy(self.policy).startswith(b"CELBPF02"))
 
@@ -87,9 +113,9 @@ class Edges(unittest.TestCase):
         seen: list = []
 
         def work() -> None:
-            for call in (Gate, compile_policy):
+            for call in (lambda: Gate(HOSTILE, profile=True), lambda: compile_policy(HOSTILE), lambda: Gate(WIDE_HOSTILE)):
                 try:
-                    call(HOSTILE)
+                    call()
                 except Refused as refused:
                     seen.append((refused.status, refused.line))
 
@@ -98,7 +124,7 @@ class Edges(unittest.TestCase):
         thread.start()
         thread.join()
         threading.stack_size(before)
-        self.assertEqual(seen, [(Status.POLICY_UNCOMPILED, "celbpf: G3")] * 2)
+        self.assertEqual(seen, [(Status.POLICY_UNCOMPILED, "celbpf: G3")] * 3)
 
 
 if __name__ == "__main__":

@@ -39,7 +39,7 @@ class Program(unittest.TestCase):
 
     def test_refusals(self) -> None:
         for text in REFUSED:
-            for call in (Gate, compile_policy):
+            for call in (lambda policy: Gate(policy, profile=True), compile_policy):
                 with self.subTest(text), self.assertRaises(Refused) as caught:
                     call(text.encode())
                 self.assertEqual(caught.exception.line, compiled(text.encode())[1])

@@ -8,10 +8,17 @@ pub struct Place {
 
 pub const DONE: u32 = 0;
 pub const DENIED: u32 = 1;
-pub const ROOM: u32 = 8;
 
 extern "C" {
     pub fn celbpf_gate_new_checked(
+        place: *mut Place,
+        policy: *const u8,
+        policy_len: usize,
+        room: *mut u8,
+        room_len: usize,
+        len: *mut usize,
+    ) -> u32;
+    pub fn celbpf_gate_new_wide_checked(
         place: *mut Place,
         policy: *const u8,
         policy_len: usize,
@@ -35,6 +42,21 @@ extern "C" {
     ) -> u32;
     pub fn celbpf_gate_free(place: *mut Place);
     pub fn celbpf_review_within_checked(
+        policy: *const u8,
+        policy_len: usize,
+        review: *const u8,
+        review_len: usize,
+        ns: *const u8,
+        ns_len: usize,
+        params: *const u8,
+        params_len: usize,
+        steps: u64,
+        reads: u64,
+        room: *mut u8,
+        room_len: usize,
+        len: *mut usize,
+    ) -> u32;
+    pub fn celbpf_review_wide_checked(
         policy: *const u8,
         policy_len: usize,
         review: *const u8,

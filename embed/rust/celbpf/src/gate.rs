@@ -1,7 +1,7 @@
 //! Gates, and the calls that need none.
 use crate::ffi::{
     celbpf_compile_checked, celbpf_gate_decide_within_checked, celbpf_gate_free, celbpf_gate_new_checked,
-    celbpf_review_within_checked, Place, DENIED, DONE, ROOM,
+    celbpf_gate_new_wide_checked, celbpf_review_wide_checked, celbpf_review_within_checked, Place, DENIED, DONE,
 };
 use crate::refusal::{Refusal, Status};
 use std::ptr::null_mut;
@@ -10,10 +10,19 @@ use std::ptr::null_mut;
 pub const DEFAULT_STEPS: u64 = 10_000_000;
 
 /// How many bytes the helper calls of a policy's program may read together, unless a call says otherwise.
-pub const DEFAULT_READS: u64 = 268_435_456;
+pub const DEFAULT_READS: u64 = 16_777_216;
 
 /// The room for a text at the first try. Most are shorter.
 const FIRST_ROOM: usize = 4096;
+
+/// How a policy is read.
+#[derive(Clone, Copy, Debug, PartialEq, Eq)]
+pub enum Language {
+    /// As clusters store it, and as the program gatekeeper reads it.
+    Wide,
+    /// The language that is compiled, as the program celbpf reads it.
+    Profile,
+}
 
 /// What a policy decides.
 #[derive(Clone, Copy, Debug)]
@@ -54,14 +63,21 @@ pub struct Gate {
 unsafe impl Send for Gate {}
 
 impl Gate {
-    /// Compiles a ValidatingAdmissionPolicy (`admissionregistration.k8s.io/v1`). As [`review`] and [`compile`] it runs on
-    /// a thread of its own if this one's stack is small.
+    /// Compiles a ValidatingAdmissionPolicy (`admissionregistration.k8s.io/v1`), which is read as clusters store it. As
+    /// [`review`] and [`compile`] it runs on a thread of its own if this one's stack is small.
     pub fn new(policy: &[u8]) -> Result<Gate, Refusal> {
+        Gate::new_in(Language::Wide, policy)
+    }
+
+    /// Compiles a policy that is read in this language. See [`Gate::new`].
+    pub fn new_in(language: Language, policy: &[u8]) -> Result<Gate, Refusal> {
+        let make = match language {
+            Language::Wide => celbpf_gate_new_wide_checked,
+            Language::Profile => celbpf_gate_new_checked,
+        };
         let mut gate = Gate { place: Place { held: null_mut() }, room: Vec::new() };
         let place = &mut gate.place;
-        told(&mut gate.room, |room, room_len, len| unsafe {
-            celbpf_gate_new_checked(place, policy.as_ptr(), policy.len(), room, room_len, len)
-        })?;
+        told(&mut gate.room, |room, room_len, len| unsafe { make(place, policy.as_ptr(), policy.len(), room, room_len, len) })?;
         Ok(gate)
     }
 
@@ -105,8 +121,17 @@ pub fn review(policy: &[u8], request: &Request) -> Result<Response, Refusal> {
 
 /// Decides such a request; helper calls may read this many bytes together. `u64::MAX` is no limit.
 pub fn review_within(policy: &[u8], request: &Request, reads: u64) -> Result<Response, Refusal> {
+    review_in(Language::Wide, policy, request, reads)
+}
+
+/// Decides such a request, under a policy that is read in this language.
+pub fn review_in(language: Language, policy: &[u8], request: &Request, reads: u64) -> Result<Response, Refusal> {
+    let decide = match language {
+        Language::Wide => celbpf_review_wide_checked,
+        Language::Profile => celbpf_review_within_checked,
+    };
     told(&mut Vec::new(), |room, room_len, len| unsafe {
-        celbpf_review_within_checked(
+        decide(
             policy.as_ptr(),
             policy.len(),
             request.review.as_ptr(),
@@ -124,7 +149,7 @@ pub fn review_within(policy: &[u8], request: &Request, reads: u64) -> Result<Res
     })
 }
 
-/// Compiles a policy to the file of its image, which `celbpf debug` takes.
+/// Compiles a policy of [`Language::Profile`] to the file of its image, as `celbpf compile` does.
 pub fn compile(policy: &[u8]) -> Result<Vec<u8>, Refusal> {
     let made = told(&mut Vec::new(), |room, room_len, len| unsafe {
         celbpf_compile_checked(policy.as_ptr(), policy.len(), room, room_len, len)
@@ -137,7 +162,8 @@ fn told(room: &mut Vec<u8>, mut call: impl FnMut(*mut u8, usize, *mut usize) -> 
     let mut len = 0;
     room.resize(room.len().max(FIRST_ROOM), 0);
     let mut status = call(room.as_mut_ptr(), room.len(), &mut len);
-    if status == ROOM {
+    // the line of a refusal may be longer than the room, too
+    if len > room.len() {
         room.resize(len, 0);
         status = call(room.as_mut_ptr(), room.len(), &mut len);
     }

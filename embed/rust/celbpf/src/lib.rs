@@ -11,13 +11,14 @@
 //! ```
 //!
 //! A [`Gate`] is a policy that is compiled once. It is `Send` and takes `&mut self`, so give each thread one. The
-//! decisions are those of the program celbpf, byte for byte: both are the same proved code. This crate is a thin layer
-//! over it, and is not proved. [`Gate::decide_within`] takes another limit of reads than [`DEFAULT_READS`].
+//! decisions are those of the program gatekeeper, byte for byte: both are the same proved code. This crate is a thin
+//! layer over it, and is not proved. [`Gate::decide_within`] takes another limit of reads than [`DEFAULT_READS`];
+//! [`Gate::new_in`] reads a policy as the program celbpf does.
 #![deny(missing_docs)]
 
 mod ffi;
 mod gate;
 mod refusal;
 
-pub use gate::{compile, review, review_within, Gate, Request, Response, DEFAULT_READS, DEFAULT_STEPS};
+pub use gate::{compile, review, review_in, review_within, Gate, Language, Request, Response, DEFAULT_READS, DEFAULT_STEPS};
 pub use refusal::{Refusal, Status};

@@ -57,7 +57,7 @@ impl Status {
     }
 }
 
-/// A refusal, with the line that the program celbpf prints.
+/// A refusal, with the line that the program gatekeeper prints, or celbpf for a policy of the language `Profile`.
 #[derive(Clone, Debug, PartialEq, Eq)]
 pub struct Refusal {
     /// Why.

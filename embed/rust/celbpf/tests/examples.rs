@@ -1,5 +1,5 @@
 //! The repository's examples, and the edges.
-use celbpf::{compile, review, Gate, Request, Response, Status, DEFAULT_STEPS};
+use celbpf::{compile, review, review_in, Gate, Language, Request, Response, Status, DEFAULT_READS, DEFAULT_STEPS};
 use std::fs;
 use std::path::{Path, PathBuf};
 use std::thread;
@@ -67,9 +67,12 @@ fn every_response() {
     let all = examples();
     assert!(!all.is_empty());
     for of in &all {
-        let mut gate = Gate::new(&of.policy).unwrap();
-        assert_eq!(gate.decide(&of.request()).as_ref(), Ok(&of.response), "{:?}", of.name);
-        assert_eq!(review(&of.policy, &of.request()).as_ref(), Ok(&of.response), "{:?}", of.name);
+        for language in [Language::Wide, Language::Profile] {
+            let mut gate = Gate::new_in(language, &of.policy).unwrap();
+            assert_eq!(gate.decide(&of.request()).as_ref(), Ok(&of.response), "{:?}", of.name);
+            let alone = review_in(language, &of.policy, &of.request(), DEFAULT_READS);
+            assert_eq!(alone.as_ref(), Ok(&of.response), "{:?}", of.name);
+        }
         assert!(compile(&of.policy).unwrap().starts_with(b"CELBPF02"));
     }
     println!("{} reviews", all.len());
@@ -114,13 +117,35 @@ fn refusals() {
     assert_eq!(gate.decide(&of.request()), Ok(of.response.clone()));
 }
 
+/// A policy with this expression.
+fn of_expression(text: &str) -> Vec<u8> {
+    let head = r#"{"apiVersion":"admissionregistration.k8s.io/v1","kind":"ValidatingAdmissionPolicy","#;
+    format!(r#"{head}"spec":{{"validations":[{{"expression":"{text}"}}]}}}}"#).into_bytes()
+}
+
+#[test]
+fn the_wide_language() {
+    let policy = of_expression("object.?spec.?replicas.orValue(1) <= 3");
+    let five = fs::read(folder().join("replicas/five.review.json")).unwrap();
+    let response = Gate::new(&policy).unwrap().decide(&Request::of(&five)).unwrap();
+    let message = r#""message":"failed expression: object.?spec.?replicas.orValue(1) <= 3""#;
+    assert!(!response.allowed && String::from_utf8_lossy(&response.json).contains(message));
+    assert_eq!(review(&policy, &Request::of(&five)), Ok(response));
+    let refused = Gate::new_in(Language::Profile, &policy).err().unwrap();
+    assert_eq!(refused.line, "celbpf: K6 validation 0 P4 at 7");
+    let long = "a".repeat(5000);
+    for (text, name) in [("url('a')", "url"), (&long, &long)] {
+        let refused = Gate::new(&of_expression(text)).err().unwrap();
+        assert_eq!((refused.status, refused.line), (Status::PolicyUncompiled, format!("celbpf: K6 validation 0 W5 {name}")));
+    }
+}
+
 #[test]
 fn a_hostile_policy() {
-    let head = r#"{"apiVersion":"admissionregistration.k8s.io/v1","kind":"ValidatingAdmissionPolicy","#;
-    let spec =
-        format!(r#""metadata":{{"name":"hostile"}},"spec":{{"validations":[{{"expression":"{}true"}}]}}}}"#, "!".repeat(4095));
-    let policy = format!("{head}{spec}");
-    // it takes the most stack to read, of which a test's thread has 2 MB, and has too many nodes
-    assert_eq!(Gate::new(policy.as_bytes()).err().unwrap().line, "celbpf: G3");
-    assert_eq!(compile(policy.as_bytes()).unwrap_err().status, Status::PolicyUncompiled);
+    // they take the most stack to read, of which a test's thread has 2 MB, and have too many nodes
+    let wide = of_expression(&format!("object{}", ".a".repeat(2044)));
+    assert_eq!(Gate::new(&wide).err().unwrap().line, "celbpf: G3");
+    let policy = of_expression(&format!("{}true", "!".repeat(4095)));
+    assert_eq!(Gate::new_in(Language::Profile, &policy).err().unwrap().line, "celbpf: G3");
+    assert_eq!(compile(&policy).unwrap_err().status, Status::PolicyUncompiled);
 }

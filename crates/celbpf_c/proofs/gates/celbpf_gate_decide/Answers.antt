@@ -3,4 +3,4 @@
 use Rattle.celbpf_c.proofs.gates.celbpf_gate_decide.Goals as goal
 
 pub returns-clause-answers : goal.returns-clause-answers
-returns-clause-answers c policy holds = rw (← c.of_steps.ensures) (c.decide.ensures.answers policy holds)
+returns-clause-answers c language policy holds = rw (← c.of_steps.ensures) (c.decide.ensures.answers language policy holds)
