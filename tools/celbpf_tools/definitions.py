@@ -20,7 +20,7 @@ class Definition:
     place: int
     has_sentence: bool
     has_cases: bool
-    lines: list = field(default_factory=list)
+    lines: list[Any] = field(default_factory=list)
 
 
 class Module:
@@ -29,7 +29,10 @@ class Module:
     def __init__(self, path: Any, crates: Any = CRATES):
         self.file = str(path.relative_to(crates))
         self.name = "Rattle." + self.file.removesuffix(".antt").replace("/", ".")
-        self.definitions, self.names, self.modules, self.owners = {}, {}, {}, {}
+        self.definitions: dict[str, Definition] = {}
+        self.names: dict[str, Any] = {}
+        self.modules: dict[str, Any] = {}
+        self.owners: dict[str, Any] = {}
         for place, line, has_sentence, head in headed(path.read_text().splitlines(), self.take):
             if head:
                 definition = Definition(place, has_sentence, head[2] == "data ")
@@ -38,7 +41,7 @@ class Module:
             if self.definitions:
                 self.add(line, *current)
 
-    def take(self, use: re.Match) -> None:
+    def take(self, use: re.Match[str]) -> None:
         """What a line `use` imports."""
         for name in use[2].split(", ") if use[2] else ():
             self.give(name.split(" as ")[-1], use[1], name.split(" as ")[0])
@@ -56,7 +59,7 @@ class Module:
             self.owners.setdefault(case[1], name)
         definition.lines.append(line)
 
-    def named(self, word: str) -> Optional[tuple]:
+    def named(self, word: str) -> Optional[tuple[Any, ...]]:
         """The module and the name of what a word, or the first word of a path, stands for, if that is a definition."""
         first, *rest = word.split(".")
         if rest and first in self.modules:
@@ -68,7 +71,7 @@ class Module:
         return (self.name, self.owners[first]) if first in self.owners else None
 
 
-def headed(lines: list, take: Callable) -> Iterator:
+def headed(lines: list[Any], take: Callable[..., Any]) -> Iterator[Any]:
     """The lines of definitions: place, line, whether a sentence stands above, and the match of a head, if it is one."""
     is_inside = is_told = False
     for place, line in enumerate(lines, 1):
@@ -85,6 +88,6 @@ def headed(lines: list, take: Callable) -> Iterator:
         is_told = line.lstrip().startswith("--")
 
 
-def modules(crates: Any = CRATES) -> list:
+def modules(crates: Any = CRATES) -> list[Any]:
     """The files of definitions of all crates, in their order."""
     return [Module(path, crates) for path in sorted(crates.glob("*/specs/**/*.antt"))]

@@ -1,17 +1,20 @@
 """Documents as people write them: JSON, and YAML if Python's `yaml` is installed."""
 
+import importlib
 import json
 import re
+import sys
 from pathlib import Path
 from typing import Any, Iterator, Optional, Union
 
 from .entry import Stop
 
 try:
-    import yaml
+    yaml: Any = importlib.import_module("yaml")
 except ImportError:
     yaml = None
 
+STDIN = "-"
 YAML_NAMES = (".yaml", ".yml")
 # PyYAML takes more texts for numbers and dates than a cluster does: 1:30 is a text there, and so is 2026-11-26
 NOT_RESOLVED = ("tag:yaml.org,2002:timestamp", "tag:yaml.org,2002:int", "tag:yaml.org,2002:float")
@@ -40,9 +43,10 @@ def place_of(text: str, at: int) -> str:
 
 
 def text_of(path: Union[str, Path], shown: str = "") -> str:
-    """The text of a file, which errors call so."""
+    """The text of a file, which errors call so, or of standard input if it is `-`."""
     try:
-        return Path(path).read_text(encoding="utf-8-sig")
+        read = sys.stdin.buffer.read() if str(path) == STDIN else Path(path).read_bytes()
+        return read.decode("utf-8-sig").replace("\r\n", "\n").replace("\r", "\n")
     except OSError as why:
         raise Unreadable(f"{shown or path}: {why.strerror}") from why
     except UnicodeDecodeError as why:
@@ -66,7 +70,7 @@ def json_fault(text: str) -> Optional[str]:
 def loader(base: Any = None) -> Any:
     """A loader of YAML that takes numbers as a cluster does, and dates as texts; `base` is a safe loader of the package."""
 
-    class Loader(base or yaml.SafeLoader):
+    class Loader(base or yaml.SafeLoader):  # type: ignore[misc]
         """YAML 1.1 without dates and without numbers to the base of 60."""
 
     Loader.yaml_implicit_resolvers = {
@@ -96,7 +100,7 @@ def refuse_repeated(root: Any) -> None:
         parts = node.value if isinstance(node, yaml.SequenceNode) else []
         if isinstance(node, yaml.MappingNode):
             parts = [part for pair in node.value for part in pair]
-            lines: dict = {}
+            lines: dict[str, Any] = {}
             for key in (name for name, _ in node.value if isinstance(name, yaml.ScalarNode) and name.tag != MERGE):
                 if key.value in lines:
                     told = f"the key {key.value!r} of line {lines[key.value]} is repeated"
@@ -109,7 +113,7 @@ def refuse_repeated(root: Any) -> None:
                 waiting.append(part)
 
 
-def yaml_values(text: str, load: Any) -> Iterator:
+def yaml_values(text: str, load: Any) -> Iterator[Any]:
     """The node and the value of each document of a text in YAML, with a loader of this class."""
     loading = load(text)
     try:
@@ -121,7 +125,7 @@ def yaml_values(text: str, load: Any) -> Iterator:
         loading.dispose()
 
 
-def yaml_of(text: str, path: Path) -> list:
+def yaml_of(text: str, path: Union[str, Path]) -> list[Any]:
     """The documents of a text in YAML, without empty ones."""
     if yaml is None:
         raise Unreadable(f"{path}: reading YAML needs PyYAML (Debian's python3-yaml); JSON is read without it")
@@ -139,7 +143,7 @@ def yaml_of(text: str, path: Path) -> list:
         raise Unreadable(f"{path}: it is nested too deep") from why
 
 
-def all_in(path: Path) -> list:
+def all_in(path: Union[str, Path]) -> list[Any]:
     """The documents of a file, which is YAML if its name or its text says so."""
     text = text_of(path)
     is_named = Path(path).suffix in YAML_NAMES

@@ -24,13 +24,14 @@ from typing import Any, Optional
 
 from celbpf_tools.entry import parser_of
 from celbpf_tools.home import built
+
 from ..hostile.places import cases, lines
 from ..hostile.shapes import MOST, SHAPES, Shape
 from ..hostile.watched import OUT_OF_READS, Cost, Watched
 
 NAMES = ("policy", "namespace", "params")
 # the gatekeeper's limit of reads if none is given
-READS = 2**28
+READS = 2**24
 TIMES = 10
 # ten times the limit may take a little more than ten times as long, since a run is measured once
 MOST_TIMES = 13.0
@@ -60,9 +61,9 @@ class Trial:
     keep: Optional[Path] = None
     count: int = 0
     bad: int = 0
-    worst: dict = field(default_factory=dict)
+    worst: dict[str, Any] = field(default_factory=dict)
 
-    def watched(self, documents: dict, *more: str) -> Watched:
+    def watched(self, documents: dict[str, Any], *more: str) -> Watched:
         """A gatekeeper with these documents."""
         arguments = list(more)
         for name, held in documents.items():
@@ -71,7 +72,7 @@ class Trial:
             arguments += [f"--{name}", str(path)]
         return Watched(self.program, arguments)
 
-    def judge(self, is_good: bool, documents: dict, line: bytes) -> None:
+    def judge(self, is_good: bool, documents: dict[str, Any], line: bytes) -> None:
         """Counts a line, and keeps one that is not good."""
         self.count += 1
         if is_good:
@@ -83,7 +84,7 @@ class Trial:
             for name, held in {**documents, "line": line}.items():
                 (kept / f"{name}.json").write_bytes(held)
 
-    def cost(self, documents: dict, line: bytes, *more: str) -> Cost:
+    def cost(self, documents: dict[str, Any], line: bytes, *more: str) -> Cost:
         with self.watched(documents, *more) as watched:
             return watched.give(line)
 
@@ -103,7 +104,7 @@ class Trial:
         ends_so = cost.answer.startswith(OUT_OF_READS) == shape.is_limited
         self.judge(cost.is_within and ends_so and times <= MOST_TIMES, documents, line)
 
-    def under(self, name: str, case: Any, review: dict, shape: Shape) -> None:
+    def under(self, name: str, case: Any, review: dict[str, Any], shape: Shape) -> None:
         """A shape in the review of an example policy, one line after another."""
         documents = {kind: held for kind in NAMES if (held := getattr(case, kind)) is not None}
         with self.watched(documents) as watched:
@@ -115,7 +116,7 @@ class Trial:
                 if shape.name not in self.worst or cost.seconds > self.worst[shape.name][2].seconds:
                     self.worst[shape.name] = name, len(line), cost
 
-    def examples(self, shapes: list) -> None:
+    def examples(self, shapes: list[Any]) -> None:
         """Shapes in the reviews of all example policies."""
         for name, case, review in cases():
             for shape in shapes:
@@ -124,7 +125,7 @@ class Trial:
             told(f"{shape}, {name}", length, cost)
 
 
-def policy_of(shape: Shape, room: int = MOST) -> dict:
+def policy_of(shape: Shape, room: int = MOST) -> dict[str, Any]:
     return {"policy": json.dumps(shape.policy(room)).encode()}
 
 

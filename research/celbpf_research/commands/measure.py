@@ -11,12 +11,14 @@ time of calls of helpers by what they read. What is run is in celbpf_research/me
 import os
 import sys
 import tempfile
+from typing import Any, Callable
 
 from celbpf_tools.home import EXAMPLES, built
+
 from ..measures import policies, reads, shapes, steps, values, worst
 from ..measures.runs import Runs
 
-PARTS = {
+PARTS: dict[str, Callable[[Runs], Any]] = {
     "steps": steps.measure,
     "values": values.measure,
     "policies": lambda runs: policies.measure(runs, f"{EXAMPLES}/replicas"),
@@ -28,7 +30,7 @@ PARTS = {
 
 
 def main() -> None:
-    program = os.path.abspath(sys.argv[1] if len(sys.argv) > 1 else built("celbpf"))
+    program = os.path.abspath(sys.argv[1] if len(sys.argv) > 1 else str(built("celbpf")))
     if not os.access(program, os.X_OK):
         sys.exit(f"measure: no program at {program}; build it first")
     with tempfile.TemporaryDirectory() as folder:

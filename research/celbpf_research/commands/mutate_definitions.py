@@ -27,10 +27,12 @@ from pathlib import Path
 from tempfile import TemporaryDirectory
 from typing import Iterator
 
-from ..computing.rows import Rows
 from celbpf_tools.definitions import CRATES, Module
 from celbpf_tools.entry import Stop, parser_of
+
+from ..computing.rows import Rows
 from ..mutating import known
+from ..mutating.change import Change
 from ..mutating.drawing import Drawn, again, believed, changes, drawn, read_all
 from ..mutating.pins import Pin, all_pins
 from ..mutating.trying import Sources, Workshop, with_imports, workshop
@@ -90,7 +92,9 @@ class Run:
     def __init__(self, pins: list[Pin], sources: Sources, most_above: int):
         self.pins, self.sources, self.most_above = pins, sources, most_above
         self.same, self.false_laws = known.read(known.EQUIVALENT), known.read(known.FALSE_LAWS)
-        self.computed, self.counts, self.seconds = Computed(), {}, []
+        self.computed = Computed()
+        self.counts: dict[str, Counter[str]] = {}
+        self.seconds: list[float] = []
 
     def tell(self, one: Drawn, outcome: Outcome) -> None:
         """Counts an outcome, and prints its line."""
@@ -135,7 +139,7 @@ class Run:
     @property
     def told(self) -> str:
         """The counts of all verdicts, and the time of a change."""
-        counts = sum(self.counts.values(), Counter())
+        counts: Counter[str] = sum(self.counts.values(), Counter())
         meant = sum(counts[verdict] for verdict in MEANT)
         told = ", ".join(f"{counts[verdict]} {verdict}" for verdict in VERDICTS)
         mean = sum(self.seconds) / len(self.seconds) if self.seconds else 0
@@ -150,7 +154,8 @@ def print_unpinned(read: dict[str, Module], pins: list[Pin], crates: list[str]) 
     """The definitions of the list that no row rests on, with the laws that do."""
     rows = set().union(*(pin.rests_on for pin in pins if pin.is_rows))
     laws = set().union(*(pin.rests_on for pin in pins if not pin.is_rows))
-    of = [Drawn(file, name, None) for file, _, _, name in believed(read) if not crates or file.split("/")[0] in crates]
+    none = Change("", 0, (), ())
+    of = [Drawn(file, name, none) for file, _, _, name in believed(read) if not crates or file.split("/")[0] in crates]
     without = [one for one in of if one.definition not in rows]
     for one in without:
         print(f"{'laws ' if one.definition in laws else 'code '}{one.file} {one.name}")
@@ -169,7 +174,7 @@ def drawings(given: argparse.Namespace, read: dict[str, Module]) -> list[Iterato
     """What is tried: the changes from each seed, or those of an earlier run."""
     if given.again:
         return [iter(again(read, given.again.read_text(encoding="utf-8")))]
-    of = changes(read, given.crate, tuple(given.definition) or None)
+    of = changes(read, given.crate, (given.definition[0], given.definition[1]) if given.definition else None)
     return [drawn(of, seed) for seed in given.seed or [1]]
 
 

@@ -1,5 +1,7 @@
 """The clauses of a function: the patterns of each and its result."""
 
+from typing import Any
+
 from .sources import Clause, Definition, Source, indent, items
 from .syntax import Reader
 from .tokens import NotRead, Token, tokens
@@ -18,7 +20,7 @@ def sides(clause: Clause) -> tuple[list[Token], list[Token]]:
     raise NotRead("a clause without a result")
 
 
-def patterns(source: Source, definition: Definition, clause: Clause) -> list[tuple]:
+def patterns(source: Source, definition: Definition, clause: Clause) -> list[tuple[Any, ...]]:
     """The patterns of a clause; implicit ones are left out."""
     left, _ = sides(clause)
     sign = Token("name", definition.name.strip("◌"))
@@ -36,7 +38,7 @@ def patterns(source: Source, definition: Definition, clause: Clause) -> list[tup
     raise NotRead(f"a clause of {definition.name}")
 
 
-def result(source: Source, clause: Clause) -> tuple:
+def result(source: Source, clause: Clause) -> tuple[Any, ...]:
     """What a clause gives."""
     _, right = sides(clause)
     if right[:1] == [Token("name", "do")]:
@@ -45,7 +47,7 @@ def result(source: Source, clause: Clause) -> tuple:
     return Reader(right, source.strengths).whole()
 
 
-def steps(source: Source, found: list[list[Token]]) -> tuple:
+def steps(source: Source, found: list[list[Token]]) -> tuple[Any, ...]:
     """The steps of a `do`, each of which may bind a name for those after it."""
     first = found[0]
     if len(first) > 1 and first[1] == Token("name", "←"):

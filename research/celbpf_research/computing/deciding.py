@@ -1,11 +1,11 @@
 """Whether a statement is true: yes, no, or nothing where that is not computed here."""
 
-from typing import Any, Optional
+from typing import Any, Callable, Optional
 
 from .natives import integer
 from .values import Statement, Unknown, are_equal, force
 
-COMPARED = {
+COMPARED: dict[str, Callable[..., Any]] = {
     "≡": are_equal,
     "≢": lambda one, other: not are_equal(one, other),
     "<": lambda one, other: force(one) < force(other),
@@ -45,7 +45,7 @@ def joined(found: Statement) -> Optional[bool]:
     return None if None in (one, other) else one == other
 
 
-def all_of(parts: tuple) -> Optional[bool]:
+def all_of(parts: tuple[Any, ...]) -> Optional[bool]:
     """Whether all statements are true; the rest is not looked at after one that is not."""
     found: Optional[bool] = True
     for part in parts:

@@ -1,6 +1,6 @@
 """The Python lines that match a value against a pattern; `break` ends a clause that does not match."""
 
-from typing import Callable, Iterator
+from typing import Any, Callable, Iterator
 
 from .tokens import NotRead
 
@@ -11,10 +11,10 @@ NATIVE_CONSTRUCTORS = {"pos", "negsuc", "tt", "inl", "inr"}
 class Matcher:
     """Matches patterns; `constructor_of` gives the name of the constructor that a word or path is, or nothing."""
 
-    def __init__(self, constructor_of: Callable, fresh: Callable):
+    def __init__(self, constructor_of: Callable[..., Any], fresh: Callable[..., Any]):
         self.constructor_of, self.fresh = constructor_of, fresh
 
-    def lines(self, pattern: tuple, value: str, bound: dict[str, str]) -> Iterator[str]:
+    def lines(self, pattern: tuple[Any, ...], value: str, bound: dict[str, str]) -> Iterator[str]:
         """The lines for one pattern; the names that it binds go into `bound`."""
         kind = pattern[0]
         if kind == "number":
@@ -33,7 +33,7 @@ class Matcher:
         else:
             yield from self.word(pattern, value, bound)
 
-    def word(self, pattern: tuple, value: str, bound: dict[str, str]) -> Iterator[str]:
+    def word(self, pattern: tuple[Any, ...], value: str, bound: dict[str, str]) -> Iterator[str]:
         """The lines for a name, which is a constructor or is bound."""
         name = pattern[1] if pattern[0] in ("name", "path") else None
         if name is None:
@@ -49,12 +49,12 @@ class Matcher:
         else:
             bound[name] = value
 
-    def made(self, constructor: str, parts: list[tuple], value: str, bound: dict[str, str]) -> Iterator[str]:
+    def made(self, constructor: str, parts: list[tuple[Any, ...]], value: str, bound: dict[str, str]) -> Iterator[str]:
         yield from (f"{value} = force({value})", f"if {value}.name != {constructor!r}: break")
         for at, part in enumerate(parts):
             yield from self.part(part, f"{value}.parts[{at}]", bound)
 
-    def part(self, pattern: tuple, value: str, bound: dict[str, str]) -> Iterator[str]:
+    def part(self, pattern: tuple[Any, ...], value: str, bound: dict[str, str]) -> Iterator[str]:
         if pattern != ("name", "_"):
             name = self.fresh()
             yield f"{name} = {value}"

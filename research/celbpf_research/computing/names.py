@@ -1,9 +1,10 @@
 """What the words of a file stand for."""
 
 from pathlib import Path
-from typing import NamedTuple, Optional
+from typing import Any, NamedTuple, Optional
 
 from celbpf_tools.home import ROOT
+
 from ..mutating.above import kit
 from .natives import NATIVES
 from .sources import Definition, Source
@@ -47,7 +48,7 @@ class Names:
             self.read[module] = Source(module, path, text, self.strength) if path else None
         return self.read[module]
 
-    def strength(self, module: str, sign: str) -> Optional[tuple]:
+    def strength(self, module: str, sign: str) -> Optional[tuple[Any, ...]]:
         """The strength of an operator of a module."""
         source = self.source(module)
         return source.strengths.get(sign) if source else None
@@ -58,7 +59,7 @@ class Names:
         assert source
         return source.definitions[meaning.name]
 
-    def below(self, module: str, name: str, seen: frozenset = frozenset()) -> Meaning:
+    def below(self, module: str, name: str, seen: frozenset[Any] = frozenset()) -> Meaning:
         """What a name of a module stands for."""
         source = self.source(module)
         if source:
@@ -70,12 +71,12 @@ class Names:
         is_type = name[:1].isupper() and name != "TheVariants"
         return Meaning("type" if is_type else "module", f"{module}.{name}", name)
 
-    def meaning(self, source: Source, name: str, seen: frozenset = frozenset()) -> Meaning:
+    def meaning(self, source: Source, name: str, seen: frozenset[Any] = frozenset()) -> Meaning:
         """What a word of a file stands for; what the toolchain computes goes before its definition."""
         found = self.declared(source, name, seen)
         return Meaning("native", "", name) if found.kind == "native" and found.name not in NATIVES and name in NATIVES else found
 
-    def declared(self, source: Source, name: str, seen: frozenset) -> Meaning:
+    def declared(self, source: Source, name: str, seen: frozenset[Any]) -> Meaning:
         for word in (name, f"◌{name}◌"):
             if word in source.definitions:
                 is_native = word in NATIVES and source.name.startswith(OURS)
@@ -87,7 +88,7 @@ class Names:
         module = f"{source.name}.{name}"
         return Meaning("module", module, name) if self.path(module) else Meaning("native", source.name, name)
 
-    def imported(self, module: str, name: Optional[str], seen: frozenset) -> Meaning:
+    def imported(self, module: str, name: Optional[str], seen: frozenset[Any]) -> Meaning:
         """What an import brings: a name of a module, or a module, which may be a name of the one above it."""
         if name:
             return self.below(module, name, seen)

@@ -5,7 +5,7 @@ from typing import Any, Callable
 from .values import EMPTY, Later, Made, Statement, Stuck, Unknown, applied, elements, force, listed
 
 MOST_BITS = 100_000
-NATIVES: dict[str, Callable] = {}
+NATIVES: dict[str, Callable[..., Any]] = {}
 # other names under which the crates know them
 ALIASES = {
     "slice_index_or": "get_or", "slice_set": "set", "encodes": "encode_utf8_all", "nat_eq": "eqb", "nat_lt": "ltb",
@@ -13,10 +13,10 @@ ALIASES = {
 }  # fmt: skip
 
 
-def native(*names: str) -> Callable:
+def native(*names: str) -> Callable[..., Any]:
     """Enters a function under its name, or under these."""
 
-    def enter(function: Callable) -> Callable:
+    def enter(function: Callable[..., Any]) -> Callable[..., Any]:
         NATIVES.update({name: function for name in names or (function.__name__,)})
         return function
 
@@ -70,9 +70,10 @@ def seen(value: Any) -> Any:
     return value
 
 
-def front(values: Any, most: float = float("inf")) -> tuple[list, Any]:
+def front(values: Any, most: float = float("inf")) -> tuple[list[Any], Any]:
     """The elements of the computed front of a list, at most so many, and the rest."""
-    found, left = [], force(values)
+    found: list[Any] = []
+    left = force(values)
     while left.name == "∷" and len(found) < most:
         found.append(left.parts[0])
         after = seen(left.parts[1])
@@ -82,7 +83,7 @@ def front(values: Any, most: float = float("inf")) -> tuple[list, Any]:
     return found, left
 
 
-def onto(values: list, after: Any) -> Any:
+def onto(values: list[Any], after: Any) -> Any:
     for value in reversed(values):
         after = Made("∷", (value, after))
     return after
@@ -215,7 +216,7 @@ def signed(width: int, number: int) -> int:
     return number if number < 2 ** (width - 1) else number - 2**width
 
 
-def width(name: str) -> Callable:
+def width(name: str) -> Callable[..., Any]:
     value = Made(name)
     return lambda: value
 

@@ -36,7 +36,7 @@ class Program:
             self.space[key] = self.untranslated(key)
         return self.keys[meaning]
 
-    def untranslated(self, key: str) -> Callable:
+    def untranslated(self, key: str) -> Callable[..., Any]:
         """What stands for a definition until it is called."""
 
         def first(*arguments: Any) -> Any:
@@ -57,7 +57,7 @@ class Program:
         exec(compile(text, f"<{meaning.name}>", "exec"), self.space)
 
     @staticmethod
-    def unread(reason: str) -> Callable:
+    def unread(reason: str) -> Callable[..., Any]:
         def refuse(*arguments: Any) -> Any:
             raise values.Unknown(reason)
 

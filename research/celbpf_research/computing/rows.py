@@ -9,6 +9,7 @@ from pathlib import Path
 from typing import Any, Iterator, Optional
 
 from celbpf_tools.definitions import CRATES
+
 from ..mutating import pins
 from .deciding import is_true
 from .names import Names
@@ -35,7 +36,7 @@ class Row:
     label: str
     answer: Any = None
     seconds: float = 0
-    ran: frozenset = field(default_factory=frozenset)
+    ran: frozenset[Any] = field(default_factory=frozenset)
 
     @property
     def told(self) -> str:

@@ -3,7 +3,7 @@
 import re
 from dataclasses import dataclass, field
 from pathlib import Path
-from typing import Callable, Iterator, Optional
+from typing import Any, Callable, Iterator, Optional
 
 from .syntax import STRENGTHS
 from .tokens import NotRead, Token, tokens, without_comment
@@ -88,7 +88,7 @@ class Source:
     `strength_of` gives the strength of an operator of another module, or nothing.
     """
 
-    def __init__(self, name: str, path: Optional[Path], text: str, strength_of: Callable):
+    def __init__(self, name: str, path: Optional[Path], text: str, strength_of: Callable[..., Any]):
         self.name, self.path, self.strength_of = name, path, strength_of
         self.definitions: dict[str, Definition] = {}
         self.constructors: dict[str, int] = {}
@@ -132,7 +132,8 @@ class Source:
         if found[1:2] == [Token("mark", "{")]:
             at = found.index(Token("mark", "}")) + 1
         if found[at : at + 1] == [COLON] and found[0].kind == "name":
-            self.current = self.definitions.setdefault(found[0].value, Definition("function", found[0].value, shared, len(self.definitions)))
+            name = found[0].value
+            self.current = self.definitions.setdefault(name, Definition("function", name, shared, len(self.definitions)))
         elif self.current:
             self.current.clauses.append(Clause(item, found))
 

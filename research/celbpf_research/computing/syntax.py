@@ -6,7 +6,7 @@
     ("implies", left, right) ("both", left, right) ("all",) ("some",): statements; the last two are not looked into
 """
 
-from typing import Optional
+from typing import Any, Optional
 
 from .tokens import NotRead, Token
 
@@ -27,7 +27,7 @@ END = Token("end", "")
 class Reader:
     """Reads expressions from tokens, with the operators of a file."""
 
-    def __init__(self, found: list[Token], strengths: dict):
+    def __init__(self, found: list[Token], strengths: dict[str, Any]):
         self.tokens, self.at, self.strengths = found, 0, strengths
 
     def peek(self, ahead: int = 0) -> Token:
@@ -47,14 +47,14 @@ class Reader:
     def is_mark(self, value: str) -> bool:
         return self.peek() == Token("mark", value)
 
-    def whole(self) -> tuple:
+    def whole(self) -> tuple[Any, ...]:
         """The expression that all tokens are."""
         read = self.expression()
         if self.peek() is not END:
             raise NotRead(f"{self.peek().value} after an expression")
         return read
 
-    def expression(self, low: float = 0) -> tuple:
+    def expression(self, low: float = 0) -> tuple[Any, ...]:
         """An expression of operators that bind at least so strongly."""
         left = self.operand()
         while self.peek().kind == "name" and self.peek().value in self.strengths:
@@ -67,7 +67,7 @@ class Reader:
             left = {"→": ("implies", left, right), "×": ("both", left, right)}.get(sign, ("operator", sign, left, right))
         return left
 
-    def operand(self) -> tuple:
+    def operand(self) -> tuple[Any, ...]:
         if self.skips_binder():
             sign = self.peek().value
             if sign in ("→", "×"):
@@ -121,7 +121,7 @@ class Reader:
             if not depth:
                 return
 
-    def opened(self) -> tuple:
+    def opened(self) -> tuple[Any, ...]:
         """A function, a `let` or an `if`."""
         word = self.next().value
         if word == "λ":
@@ -134,7 +134,7 @@ class Reader:
         self.want("else")
         return ("if", test, one, self.expression(ELSE))
 
-    def function(self) -> tuple:
+    def function(self) -> tuple[Any, ...]:
         names = []
         while (token := self.next()).kind != "dot":
             if token == Token("mark", "("):
@@ -150,7 +150,7 @@ class Reader:
                 raise NotRead(f"{token.value} among the names of a function")
         return ("function", names, self.expression())
 
-    def let(self) -> tuple:
+    def let(self) -> tuple[Any, ...]:
         name = self.next().value
         if self.peek().value == ":":
             self.next()
@@ -160,7 +160,7 @@ class Reader:
         self.want("in")
         return ("let", name, value, self.expression())
 
-    def atom(self) -> tuple:
+    def atom(self) -> tuple[Any, ...]:
         token = self.next()
         if token.kind in ("number", "text", "path"):
             return (token.kind, token.value)
@@ -172,7 +172,7 @@ class Reader:
             return ("name", token.value)
         raise NotRead(f"{token.value} where an expression begins")
 
-    def bracketed(self) -> tuple:
+    def bracketed(self) -> tuple[Any, ...]:
         parts = []
         while not self.is_mark(")"):
             parts.append(self.expression())
@@ -182,8 +182,8 @@ class Reader:
         self.next()
         return ("tuple", parts) if is_tuple else parts[0] if parts else ("unit",)
 
-    def record(self) -> tuple:
-        base: Optional[tuple] = None if self.is_mark("{") else self.atom()
+    def record(self) -> tuple[Any, ...]:
+        base: Optional[tuple[Any, ...]] = None if self.is_mark("{") else self.atom()
         self.want("{")
         found = []
         while not self.is_mark("}"):
@@ -195,7 +195,7 @@ class Reader:
         self.next()
         return ("record", base, found)
 
-    def with_fields(self, value: tuple) -> tuple:
+    def with_fields(self, value: tuple[Any, ...]) -> tuple[Any, ...]:
         while self.peek().kind == "field":
             value = ("field", value, self.next().value)
         return value

@@ -1,7 +1,7 @@
 """The tokens of the language of the definitions."""
 
 import re
-from typing import NamedTuple, Union
+from typing import Any, NamedTuple
 
 PART = r"[^\s(){}.;,@\"«»]+"
 TOKEN = re.compile(
@@ -22,7 +22,7 @@ class Token(NamedTuple):
     """A token; a path `a.b.c` is one, and so is a field after a bracket."""
 
     kind: str
-    value: Union[str, int, tuple]
+    value: Any
 
 
 def without_comment(line: str) -> str:
@@ -90,5 +90,5 @@ def tokens(text: str) -> list[Token]:
         elif kind == "number":
             found.append(Token("number", int(match[kind].replace("_", ""), 0 if match[kind][:2] == "0x" else 10)))
         else:
-            found.append(Token("mark", match[kind]))
+            found.append(Token("mark", match["mark"]))
     return found

@@ -1,12 +1,12 @@
 """Translates a definition to a Python function: its arguments are computed when they are needed, and its result at once."""
 
-from typing import Callable, Optional
+from typing import Any, Callable, Optional
 
 from .clauses import patterns, result
 from .matching import NATIVE_CONSTRUCTORS, Matcher
 from .names import Meaning, Names
 from .natives import NATIVES, arity_of
-from .sources import Definition, Source
+from .sources import Clause, Definition, Source
 from .syntax import Reader
 from .tokens import NotRead
 
@@ -25,7 +25,7 @@ KEPT = ("Made(", "Function(", "constant(", "onto(")
 class Translation:
     """One definition; `key_of` gives the Python name of a definition."""
 
-    def __init__(self, names: Names, source: Source, definition: Definition, key_of: Callable):
+    def __init__(self, names: Names, source: Source, definition: Definition, key_of: Callable[..., Any]):
         self.names, self.source, self.definition, self.key_of = names, source, definition, key_of
         self.count = 0
         self.matcher = Matcher(self.constructor_of, self.fresh)
@@ -34,7 +34,7 @@ class Translation:
         self.count += 1
         return f"v{self.count}"
 
-    def constructor_of(self, word: tuple) -> Optional[str]:
+    def constructor_of(self, word: tuple[Any, ...]) -> Optional[str]:
         """The name of the constructor that a word or path is, if it is one; those of later types are none yet."""
         if word[0] == "path":
             found, rest = self.names.along(self.source, word[1])
@@ -43,8 +43,8 @@ class Translation:
         is_later = found.module == self.source.name and self.source.constructors.get(found.name, -1) > self.definition.place
         return found.name if (found.kind == "constructor" and not is_later) or found.name in NATIVE_CONSTRUCTORS else None
 
-    def arity(self, definition: Definition, source: Source) -> int:
-        if definition.kind != "function":
+    def arity(self, definition: Definition, source: Optional[Source]) -> int:
+        if definition.kind != "function" or source is None:
             return len(definition.parameters)
         return len(definition.shared) + len(patterns(source, definition, definition.clauses[0])) if definition.clauses else 0
 
@@ -62,7 +62,7 @@ class Translation:
             lines += self.clause(clause, arguments)
         return "\n".join([*lines, f"    raise Stuck({self.definition.name!r})", ""])
 
-    def clause(self, clause, arguments: list[str]) -> list[str]:
+    def clause(self, clause: Clause, arguments: list[str]) -> list[str]:
         shared = self.definition.shared
         found = patterns(self.source, self.definition, clause)
         if len(shared) + len(found) != len(arguments):
@@ -87,7 +87,7 @@ class Translation:
 
     # ---- expressions
 
-    def later(self, read: tuple, bound: dict) -> str:
+    def later(self, read: tuple[Any, ...], bound: dict[str, Any]) -> str:
         """An expression whose value is computed when it is needed."""
         if read[0] == "name" and read[1] in bound:
             return bound[read[1]]
@@ -107,31 +107,31 @@ class Translation:
                 return at == len(text) - 1
         return False
 
-    def now(self, read: tuple, bound: dict) -> str:
+    def now(self, read: tuple[Any, ...], bound: dict[str, Any]) -> str:
         """An expression that computes the value."""
         return getattr(self, f"of_{read[0]}")(bound, *read[1:])
 
-    def of_number(self, bound: dict, number: int) -> str:
+    def of_number(self, bound: dict[str, Any], number: int) -> str:
         return str(number)
 
-    def of_text(self, bound: dict, text: str) -> str:
+    def of_text(self, bound: dict[str, Any], text: str) -> str:
         return repr(text)
 
-    def of_unit(self, bound: dict) -> str:
+    def of_unit(self, bound: dict[str, Any]) -> str:
         return "Made('tt')"
 
-    def of_all(self, bound: dict) -> str:
+    def of_all(self, bound: dict[str, Any]) -> str:
         return "Opaque('for all')"
 
-    def of_some(self, bound: dict) -> str:
+    def of_some(self, bound: dict[str, Any]) -> str:
         return "Opaque('there is')"
 
-    def of_name(self, bound: dict, name: str) -> str:
+    def of_name(self, bound: dict[str, Any], name: str) -> str:
         if name in bound:
             return f"force({bound[name]})"
         return self.meant(self.names.meaning(self.source, name), [], bound)
 
-    def of_path(self, bound: dict, path: tuple) -> str:
+    def of_path(self, bound: dict[str, Any], path: tuple[Any, ...]) -> str:
         if path[0] in bound:
             text, rest = bound[path[0]], path[1:]
         else:
@@ -141,7 +141,7 @@ class Translation:
             text = f"field_of({text}, {name!r})"
         return text
 
-    def of_apply(self, bound: dict, function: tuple, arguments: list) -> str:
+    def of_apply(self, bound: dict[str, Any], function: tuple[Any, ...], arguments: list[Any]) -> str:
         if function[0] == "name" and function[1] not in bound:
             return self.meant(self.names.meaning(self.source, function[1]), arguments, bound)
         if function[0] == "path" and function[1][0] not in bound:
@@ -150,35 +150,35 @@ class Translation:
                 return self.meant(found, arguments, bound)
         return f"applied({self.all_later([function, *arguments], bound)})"
 
-    def of_if(self, bound: dict, test: tuple, one: tuple, other: tuple) -> str:
+    def of_if(self, bound: dict[str, Any], test: tuple[Any, ...], one: tuple[Any, ...], other: tuple[Any, ...]) -> str:
         return f"({self.now(one, bound)} if {self.now(test, bound)} else {self.now(other, bound)})"
 
-    def of_let(self, bound: dict, name: str, value: tuple, rest: tuple) -> str:
+    def of_let(self, bound: dict[str, Any], name: str, value: tuple[Any, ...], rest: tuple[Any, ...]) -> str:
         word = self.fresh()
         return f"(lambda {word}: {self.now(rest, {**bound, name: word})})({self.later(value, bound)})"
 
-    def of_function(self, bound: dict, names: list, value: tuple) -> str:
+    def of_function(self, bound: dict[str, Any], names: list[Any], value: tuple[Any, ...]) -> str:
         words = [self.fresh() for _ in names]
         inner = {**bound, **dict(zip(names, words))}
         return f"Function({len(words)}, lambda {', '.join(words)}: {self.now(value, inner)})"
 
-    def of_tuple(self, bound: dict, parts: list) -> str:
+    def of_tuple(self, bound: dict[str, Any], parts: list[Any]) -> str:
         return self.of_record(bound, None, [(str(at), part) for at, part in enumerate(parts)])
 
-    def of_record(self, bound: dict, base: Optional[tuple], fields: list) -> str:
+    def of_record(self, bound: dict[str, Any], base: Optional[tuple[Any, ...]], fields: list[Any]) -> str:
         text = "{" + ", ".join(f"{name!r}: {self.later(value, bound)}" for name, value in fields) + "}"
         return f"Record({text})" if base is None else f"updated({self.later(base, bound)}, {text})"
 
-    def of_field(self, bound: dict, value: tuple, name: str) -> str:
+    def of_field(self, bound: dict[str, Any], value: tuple[Any, ...], name: str) -> str:
         return f"field_of({self.later(value, bound)}, {name!r})"
 
-    def of_implies(self, bound: dict, left: tuple, right: tuple) -> str:
+    def of_implies(self, bound: dict[str, Any], left: tuple[Any, ...], right: tuple[Any, ...]) -> str:
         return f"Statement('→', {self.all_later([left, right], bound)})"
 
-    def of_both(self, bound: dict, left: tuple, right: tuple) -> str:
+    def of_both(self, bound: dict[str, Any], left: tuple[Any, ...], right: tuple[Any, ...]) -> str:
         return f"Statement('×', {self.all_later([left, right], bound)})"
 
-    def of_operator(self, bound: dict, sign: str, left: tuple, right: tuple) -> str:
+    def of_operator(self, bound: dict[str, Any], sign: str, left: tuple[Any, ...], right: tuple[Any, ...]) -> str:
         if sign == "∷":
             return self.listed(bound, left, right)
         if sign in STATEMENTS:
@@ -187,7 +187,7 @@ class Translation:
             return COMPUTED[sign].format(self.now(left, bound), self.now(right, bound))
         return self.meant(self.names.meaning(self.source, sign), [left, right], bound)
 
-    def listed(self, bound: dict, first: tuple, rest: tuple) -> str:
+    def listed(self, bound: dict[str, Any], first: tuple[Any, ...], rest: tuple[Any, ...]) -> str:
         """Elements in front of a list; Python's brackets nest less deep than lists are long."""
         found = [first]
         while rest[0] == "operator" and rest[1] == "∷":
@@ -197,14 +197,14 @@ class Translation:
 
     # ---- what words stand for
 
-    def all_later(self, read: list, bound: dict) -> str:
+    def all_later(self, read: list[Any], bound: dict[str, Any]) -> str:
         return ", ".join(self.later(it, bound) for it in read)
 
-    def made(self, name: str, parts: list, bound: dict) -> str:
+    def made(self, name: str, parts: list[Any], bound: dict[str, Any]) -> str:
         given = "".join(f"{self.later(part, bound)}, " for part in parts)
         return f"Made({name!r}, ({given}))" if parts else f"Made({name!r})"
 
-    def meant(self, found: Meaning, arguments: list, bound: dict) -> str:
+    def meant(self, found: Meaning, arguments: list[Any], bound: dict[str, Any]) -> str:
         """What a word stands for, with arguments."""
         if found.kind == "constructor" or (found.kind == "native" and found.name.strip("◌") in {*NATIVE_CONSTRUCTORS, "∷"}):
             return self.made(found.name.strip("◌"), arguments, bound)
@@ -220,7 +220,7 @@ class Translation:
             return f"Opaque({found.name!r})"
         return self.given(f"NATIVES[{found.name!r}]", arity_of(found.name), [self.later(it, bound) for it in arguments])
 
-    def called(self, found: Meaning, arguments: list, bound: dict) -> str:
+    def called(self, found: Meaning, arguments: list[Any], bound: dict[str, Any]) -> str:
         """A definition with arguments; within a module with parameters, those come first."""
         source, definition = self.names.source(found.module), self.names.definition(found)
         given = [self.later(it, bound) for it in arguments]

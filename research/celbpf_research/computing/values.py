@@ -16,7 +16,7 @@ class Later:
 
     __slots__ = ("run", "value")
 
-    def __init__(self, run: Callable):
+    def __init__(self, run: Callable[..., Any]):
         self.run = run
 
 
@@ -25,7 +25,7 @@ class Made:
 
     __slots__ = ("name", "parts")
 
-    def __init__(self, name: str, parts: tuple = ()):
+    def __init__(self, name: str, parts: tuple[Any, ...] = ()):
         self.name, self.parts = name, parts
 
 
@@ -34,7 +34,7 @@ class Record:
 
     __slots__ = ("fields",)
 
-    def __init__(self, fields: dict):
+    def __init__(self, fields: dict[str, Any]):
         self.fields = fields
 
 
@@ -43,7 +43,7 @@ class Function:
 
     __slots__ = ("arity", "run", "given")
 
-    def __init__(self, arity: int, run: Callable, given: tuple = ()):
+    def __init__(self, arity: int, run: Callable[..., Any], given: tuple[Any, ...] = ()):
         self.arity, self.run, self.given = arity, run, given
 
 
@@ -119,7 +119,7 @@ def field_of(value: Any, name: str) -> Any:
     return force(found.fields[name])
 
 
-def updated(base: Any, fields: dict) -> Record:
+def updated(base: Any, fields: dict[str, Any]) -> Record:
     """A record with other fields."""
     found = force(base)
     if found.__class__ is not Record:
@@ -127,7 +127,7 @@ def updated(base: Any, fields: dict) -> Record:
     return Record({**found.fields, **fields})
 
 
-def listed(values: list) -> Made:
+def listed(values: list[Any]) -> Made:
     """A list of these."""
     found = EMPTY
     for value in reversed(values):
@@ -135,7 +135,7 @@ def listed(values: list) -> Made:
     return found
 
 
-def elements(value: Any) -> list:
+def elements(value: Any) -> list[Any]:
     """The elements of a list."""
     found, rest = [], force(value)
     while rest.name != "[]":
@@ -144,7 +144,7 @@ def elements(value: Any) -> list:
     return found
 
 
-def parts_of(one: Any, other: Any) -> list:
+def parts_of(one: Any, other: Any) -> list[Any]:
     """The pairs of parts of two values of one kind that are to be equal, or nothing where the two differ at once."""
     if one.__class__ is Made and one.name == other.name and len(one.parts) == len(other.parts):
         return list(zip(one.parts, other.parts))

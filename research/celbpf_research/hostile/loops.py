@@ -16,7 +16,7 @@ class Turn:
     """An expression without side effects, the members of `object` that it names, and what its calls read."""
 
     expression: str
-    members: dict
+    members: dict[str, Any]
     # by the table of the page on helpers, without what the fields of `object` read
     reads: int
 
@@ -24,7 +24,7 @@ class Turn:
     def loop(self) -> str:
         return f"object.l.all(i, object.l.all(j, {self.expression}))"
 
-    def document(self, side: int = SIDE) -> dict:
+    def document(self, side: int = SIDE) -> dict[str, Any]:
         """The object, with the list that the loop goes over."""
         return {"l": [0] * side, **self.members}
 

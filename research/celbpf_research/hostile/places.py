@@ -5,6 +5,7 @@ from dataclasses import replace
 from typing import Any, Iterator
 
 from celbpf_tools.seeded.examples import examples
+
 from .shapes import MOST, REST, Shape, line_of
 
 ROOTS = ("object", "oldObject")
@@ -12,7 +13,7 @@ ROOTS = ("object", "oldObject")
 PLACES = 4
 
 
-def places(value: Any, kind: type, path: tuple = ()) -> Iterator[tuple]:
+def places(value: Any, kind: type, path: tuple[Any, ...] = ()) -> Iterator[tuple[Any, ...]]:
     """The paths of the values of a kind in a value."""
     if isinstance(value, kind):
         yield path
@@ -21,13 +22,13 @@ def places(value: Any, kind: type, path: tuple = ()) -> Iterator[tuple]:
         yield from places(item, kind, (*path, key))
 
 
-def at(value: Any, path: tuple) -> Any:
+def at(value: Any, path: tuple[Any, ...]) -> Any:
     for key in path:
         value = value[key]
     return value
 
 
-def put(value: Any, path: tuple, part: Any) -> Any:
+def put(value: Any, path: tuple[Any, ...], part: Any) -> Any:
     """A value with another part at a path; what is beside the path is shared."""
     if not path:
         return part
@@ -37,20 +38,20 @@ def put(value: Any, path: tuple, part: Any) -> Any:
     return {**value, key: put(value[key], tuple(rest), part)}
 
 
-def has(value: Any, path: tuple, kind: type) -> bool:
+def has(value: Any, path: tuple[Any, ...], kind: type) -> bool:
     try:
         return isinstance(at(value, path), kind)
     except (KeyError, IndexError, TypeError):
         return False
 
 
-def chosen(paths: list) -> list:
+def chosen(paths: list[Any]) -> list[Any]:
     """At most `PLACES` of these, from the first to the last."""
     step = max(1, -(-len(paths) // PLACES))
     return paths[::step]
 
 
-def with_part(review: dict, path: tuple, shape: Shape, most: int) -> bytes:
+def with_part(review: dict[str, Any], path: tuple[Any, ...], shape: Shape, most: int) -> bytes:
     """A review with a part at a path of each of its objects, as a line of at most so many bytes."""
     request = review["request"]
     roots = [name for name in ROOTS if has(request.get(name), path, shape.kind)]
@@ -63,7 +64,7 @@ def with_part(review: dict, path: tuple, shape: Shape, most: int) -> bytes:
         room = room * 3 // 4
 
 
-def lines(review: dict, shape: Shape, most: int = MOST) -> Iterator[bytes]:
+def lines(review: dict[str, Any], shape: Shape, most: int = MOST) -> Iterator[bytes]:
     """The review with the shape at some places of its objects."""
     request = review["request"]
     found = {path: None for name in ROOTS if request.get(name) for path in places(request[name], shape.kind)}
@@ -71,9 +72,9 @@ def lines(review: dict, shape: Shape, most: int = MOST) -> Iterator[bytes]:
         yield with_part(review, path, shape, most)
 
 
-def cases() -> Iterator[tuple]:
+def cases() -> Iterator[tuple[Any, ...]]:
     """For each example policy its name, and the case whose review is the longest, with the review."""
-    longest: dict = {}
+    longest: dict[str, Any] = {}
     for name, case, _ in examples():
         try:
             review = json.loads(case.review)

@@ -37,13 +37,13 @@ class Cost:
 class Watched:
     """A gatekeeper, whose processor time and greatest memory are read after each line (Linux)."""
 
-    def __init__(self, program: Any, words: list):
+    def __init__(self, program: Any, words: list[Any]):
         self.words = [program, *words]
         self.start()
 
     def start(self) -> None:
-        pipes = {"stdin": subprocess.PIPE, "stdout": subprocess.PIPE, "stderr": subprocess.DEVNULL}
-        self.running: Any = subprocess.Popen(["prlimit", f"--cpu={MOST_SECONDS * 20}", *self.words], **pipes)
+        words, pipe = ["prlimit", f"--cpu={MOST_SECONDS * 20}", *self.words], subprocess.PIPE
+        self.running: Any = subprocess.Popen(words, stdin=pipe, stdout=pipe, stderr=subprocess.DEVNULL)
         self.folder = Path(f"/proc/{self.running.pid}")
 
     def seconds(self) -> float:

@@ -71,7 +71,7 @@ def shapes(runs: Any) -> None:
     """Documents of many small maps, of maps in maps, and of containers."""
     for count in (1_900, 19_000, 190_000, 2_600_000):
         on_request(runs, f"{count:,} maps of one key", "true", {"object": {"l": [{"": 0}] * count}})
-    tower = 0
+    tower: Any = 0
     for _ in range(100):
         tower = {"": tower}
     for count in (26, 260, 2_600):

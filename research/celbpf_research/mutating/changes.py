@@ -18,7 +18,7 @@ SIGNS = [
     ("arithmetic", "*", "+"), ("arithmetic", "/", "%"), ("arithmetic", "+ℤ", "-ℤ"),
 ]
 NAME = r"[a-z_]\w*"
-ATOM = rf"(?:\([^()]*\)|[\w◌'.]+)"
+ATOM = r"(?:\([^()]*\)|[\w◌'.]+)"
 OPERAND = rf"(?!(?:if|then|else|in|let)\b){ATOM}"
 NEIGHBOURS = re.compile(rf"(?<=[\w)] )({NAME}) ({NAME})(?= |$|\)|;|,)")
 OPERANDS = re.compile(rf"({ATOM}) (-|-ℤ|\+\+|/|%|<|≤) ({ATOM})")
@@ -50,7 +50,7 @@ def is_quoted(text: str, at: int) -> bool:
     return text[:at].count('"') % 2 == 1
 
 
-def replaced(text: str, match: re.Match, new: str) -> str:
+def replaced(text: str, match: re.Match[str], new: str) -> str:
     return text[: match.start()] + new + text[match.end() :]
 
 

@@ -6,6 +6,7 @@ from typing import Iterator, Optional
 
 from celbpf_tools.commands.belief import CONTRACTS, rests_on
 from celbpf_tools.definitions import CRATES, Module, modules
+
 from .change import Change
 from .changes import of_definition
 

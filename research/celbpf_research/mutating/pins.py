@@ -48,8 +48,8 @@ def imported(text: str) -> dict[str, tuple[str, str]]:
     found = {}
     for line in text.splitlines():
         use = USE.match(line.strip().removeprefix("ghost ").removesuffix(";"))
-        for name in use[2].split(", ") if use and use[2] else ():
-            found[name.split(" as ")[-1]] = (use[1], name.split(" as ")[0])
+        if use and use[2]:
+            found.update({name.split(" as ")[-1]: (use[1], name.split(" as ")[0]) for name in use[2].split(", ")})
     return found
 
 

@@ -15,6 +15,7 @@ from typing import Iterator
 
 from celbpf_tools.entry import Stop
 from celbpf_tools.home import ROOT
+
 from . import above
 from .drawing import Drawn
 from .pins import Pin
@@ -155,7 +156,8 @@ class Workshop:
         """Checks these rows and laws of the crate, and that a module of it has a meaning."""
         self.read([module])
         paths = ["reader_of_definitions::read", *(pin.path for pin in pins)]
-        return ran(["rt", "check", "--jobs", "1", *(word for path in paths for word in ("--only", path))], self.folder / "crates" / self.crate)
+        only = [word for path in paths for word in ("--only", path)]
+        return ran(["rt", "check", "--jobs", "1", *only], self.folder / "crates" / self.crate)
 
     def stands(self, module: str) -> bool:
         """Whether all rows and laws of the crate are proved as it stands."""

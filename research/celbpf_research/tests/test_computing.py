@@ -4,6 +4,7 @@ import sys
 import tempfile
 import unittest
 from pathlib import Path
+from typing import Any
 
 from ..computing.deciding import is_true
 from ..computing.names import Names
@@ -89,14 +90,14 @@ pub fn rows_hold()
 
 
 class Reading(unittest.TestCase):
-    def test_tokens(self):
+    def test_tokens(self) -> None:
         self.assertEqual(tokens('f (a.b).c 0x1f "x\\"y" λ x. x')[0], Token("name", "f"))
         self.assertEqual([it.value for it in tokens("(a.b).c.d 0x1f 1_0")], ["(", ("a", "b"), ")", "c", "d", 31, 10])
         self.assertEqual(without_comment('f "--" -- a comment'), 'f "--"')
         self.assertEqual(meant("\\u{e9}\\x41\\n"), "éA\n")
 
-    def test_expressions(self):
-        def read(text: str) -> tuple:
+    def test_expressions(self) -> None:
+        def read(text: str) -> tuple[Any, ...]:
             return Reader(tokens(text), STRENGTHS).whole()
 
         self.assertEqual(read("a + b * c"), ("operator", "+", ("name", "a"), ("operator", "*", ("name", "b"), ("name", "c"))))
@@ -105,13 +106,13 @@ class Reading(unittest.TestCase):
         self.assertEqual(read("(x : A) → B"), ("all",))
         self.assertEqual(read("a → b"), ("implies", ("name", "a"), ("name", "b")))
 
-    def test_items(self):
+    def test_items(self) -> None:
         self.assertEqual(list(items(["a =", "  b", "c = {", "}", ""], 0)), [["a =", "  b"], ["c = {", "}"]])
         self.assertEqual(parameters(tokens("{A : B} (x y : C) : D")), ["x", "y"])
 
 
 class Computing(unittest.TestCase):
-    def setUp(self):
+    def setUp(self) -> None:
         folder = tempfile.TemporaryDirectory()
         self.addCleanup(folder.cleanup)
         self.crates = Path(folder.name)
@@ -119,7 +120,7 @@ class Computing(unittest.TestCase):
             (self.crates / "a" / part).mkdir(parents=True)
             (self.crates / "a" / part / name).write_text(text, encoding="utf-8")
 
-    def test_values(self):
+    def test_values(self) -> None:
         program = Program(Names(self.crates))
         found = program.value("Rattle.a.specs.Shapes", "doubled")
         self.assertEqual([force(it) for it in elements(found)], [2, 4])
@@ -127,7 +128,7 @@ class Computing(unittest.TestCase):
         self.assertEqual([is_true(it) for it in rows.parts], [True] * 9 + [None])
         self.assertRaises(Unknown, Program.unread("no reason"))
 
-    def test_rows(self):
+    def test_rows(self) -> None:
         # the rows of all crates recurse deeply, which other tests must not
         self.addCleanup(sys.setrecursionlimit, sys.getrecursionlimit())
         rows = Rows(self.crates)
@@ -135,8 +136,8 @@ class Computing(unittest.TestCase):
             rows.compute(row, 5)
         self.assertEqual([row.answer for row in rows.all], [True] * 9 + [None, True])
         size = ("Rattle.a.specs.Shapes", "size")
-        row, count = rows.against(size, "a", SPECS.replace("size flat = 0", "size flat = 1"), 5)
-        self.assertEqual((row and row.told, count), ("a RowsHold.no_size", 3))
+        changed, count = rows.against(size, "a", SPECS.replace("size flat = 0", "size flat = 1"), 5)
+        self.assertEqual((changed and changed.told, count), ("a RowsHold.no_size", 3))
         self.assertEqual(rows.against(size, "a", SPECS, 5), (None, 3))
         late = rows.against(("Rattle.a.specs.Shapes", "half"), "a", SPECS.replace("half n + 1", "half n + 2"), 5)
         self.assertEqual(late[0] and late[0].told, "a RowsHold.half_of_seven")

@@ -5,6 +5,7 @@ import unittest
 from pathlib import Path
 
 from celbpf_tools.definitions import Module
+
 from ..mutating import known
 from ..mutating.above import below, check, dependencies, kit
 from ..mutating.change import Change

@@ -6,7 +6,7 @@ shell puts for `<(..)`, the bytes are there once, and the program has another st
 
 import os
 from pathlib import Path
-from typing import Optional, Union
+from typing import Any, Optional, Union
 
 from ..documents import Unreadable
 
@@ -16,7 +16,7 @@ class Files:
 
     def __init__(self, folder: Union[str, Path]):
         self.folder = Path(folder)
-        self.copies: dict = {}
+        self.copies: dict[str, Any] = {}
 
     def named(self, file: Union[str, Path]) -> str:
         """The name of a regular file with the bytes of this one: it itself, where a link leads, or a copy."""

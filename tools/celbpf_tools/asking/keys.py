@@ -20,11 +20,11 @@ class Keys:
         self.program = program
         self.number = number
 
-    def refuses(self, spec: dict, **beside: Any) -> bool:
+    def refuses(self, spec: dict[str, Any], **beside: Any) -> bool:
         """Whether a policy with this specification and these other keys is refused so."""
         return self.program.refusal({**whole(spec), **beside}).split()[:1] == [self.number]
 
-    def of_policy(self, policy: dict) -> Optional[tuple]:
+    def of_policy(self, policy: dict[str, Any]) -> Optional[tuple[Any, ...]]:
         """The path of the first key that is refused, and what it has; `None` where it is none alone."""
         for key, value in policy.items():
             if key not in ("apiVersion", "kind", "spec") and self.refuses({"validations": [TRUE]}, **{key: value}):
@@ -37,11 +37,11 @@ class Keys:
                 return self.of_list(key, value) if key in LEAST and isinstance(value, list) else (f"spec.{key}", value)
         return None if "validations" in spec else ("spec", "validations is missing")
 
-    def in_list(self, key: str, items: list) -> bool:
+    def in_list(self, key: str, items: list[Any]) -> bool:
         """Whether a list of these items is refused."""
         return self.refuses({"validations": [TRUE], key: items})
 
-    def of_list(self, key: str, items: list) -> tuple:
+    def of_list(self, key: str, items: list[Any]) -> tuple[Any, ...]:
         """The first item of a list that is refused, or the first with which the list is."""
         for place, item in enumerate(items):
             path = f"spec.{key}[{place}]"

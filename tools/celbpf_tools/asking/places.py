@@ -1,6 +1,6 @@
 """The smallest piece of an expression that is refused, as the program answers for each piece."""
 
-from typing import Iterator
+from typing import Any, Iterator
 
 from .policies import Part, as_variable, asking, bound
 from .program import Program
@@ -24,15 +24,15 @@ class Refusals:
         self.part = part
         self.cause = cause
 
-    def refuses_text(self, text: str, frames: list) -> bool:
+    def refuses_text(self, text: str, frames: list[Any]) -> bool:
         # only a variable can be nested too deep
         made = as_variable if self.cause == "G2" else asking
         return cause_of(self.program.refusal(made(self.part.scope, bound(text, frames)))) == self.cause
 
-    def refuses(self, piece: Piece, frames: list) -> bool:
+    def refuses(self, piece: Piece, frames: list[Any]) -> bool:
         return self.refuses_text(self.part.text[piece.begin : piece.end], frames)
 
-    def parts(self, piece: Piece, frames: list) -> Iterator:
+    def parts(self, piece: Piece, frames: list[Any]) -> Iterator[Any]:
         """The parts of a piece with the frames in which they are; of a macro by a wrong name the range alone."""
         inner = [*frames, ("", piece.name, None)] if piece.kind == "macro" else frames
         for place, part in enumerate(piece.parts):
@@ -40,7 +40,7 @@ class Refusals:
                 return
             yield part, inner if place else frames
 
-    def smallest(self, piece: Piece, frames: list) -> Piece:
+    def smallest(self, piece: Piece, frames: list[Any]) -> Piece:
         """The first of its parts that is refused, as deep as there is one, else the piece."""
         for part, inner in self.parts(piece, frames):
             if self.refuses(part, inner):

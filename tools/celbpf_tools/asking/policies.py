@@ -3,7 +3,7 @@
 import json
 import re
 from dataclasses import dataclass
-from typing import Any, Iterator
+from typing import Any, Iterator, Optional
 
 API_VERSION = "admissionregistration.k8s.io/v1"
 KIND = "ValidatingAdmissionPolicy"
@@ -20,7 +20,7 @@ class Part:
     kind: str
     place: int
     text: str
-    scope: list
+    scope: list[Any]
     name: str = ""
 
     @property
@@ -30,34 +30,44 @@ class Part:
         return f"{'message of validation' if self.kind == 'message' else self.kind} {self.place}{named}"
 
 
-def read(path: str) -> dict:
+def read(path: str) -> dict[str, Any]:
     """What a policy's document says."""
     with open(path, encoding="utf-8") as file:
         return json.load(file)
 
 
-def whole(spec: dict) -> dict:
+def whole(spec: dict[str, Any]) -> dict[str, Any]:
     """A policy with this specification."""
     return {"apiVersion": API_VERSION, "kind": KIND, "spec": spec}
 
 
-def parts(policy: dict) -> Iterator:
+def parts(policy: dict[str, Any]) -> Iterator[Part]:
     """The parts of a policy that is read, in the order in which they are compiled."""
     spec = policy["spec"]
-    variables = spec.get("variables", [])
+    variables = spec.get("variables") or []
     for kind, key, text in LISTS:
-        for place, named in enumerate(spec.get(key, [])):
+        for place, named in enumerate(spec.get(key) or []):
             scope = variables[:place] if kind == "variable" else []
             yield Part(kind, place, named[text], scope, named["name"])
     for place, validation in enumerate(spec["validations"]):
         for kind, key in VALIDATIONS:
-            if key in validation:
+            # a key that is null is absent, as in a cluster
+            if validation.get(key) is not None:
                 yield Part(kind, place, validation[key], variables)
 
 
-def needed(scope: list, text: str) -> list:
+def part_of(policy: dict[str, Any], refusal: str) -> Optional[Part]:
+    """The part that a refusal of an expression names; none if it is of another kind."""
+    words = refusal.split()
+    if words[0] != "K6":
+        return None
+    return next(one for one in parts(policy) if one.kind == words[1] and one.place == int(words[2]))
+
+
+def needed(scope: list[Any], text: str) -> list[Any]:
     """The variables in scope that the text may name, with those that these may name."""
-    words, found = set(WORD.findall(text)), []
+    words = set(WORD.findall(text))
+    found: list[Any] = []
     for variable in reversed(scope):
         if variable["name"] in words:
             words |= set(WORD.findall(variable["expression"]))
@@ -65,7 +75,7 @@ def needed(scope: list, text: str) -> list:
     return found
 
 
-def asking(scope: list, text: str) -> dict:
+def asking(scope: list[Any], text: str) -> dict[str, Any]:
     """A policy whose one validation is this expression, of whatever type."""
     return whole({"variables": needed(scope, text), "validations": [{"expression": f"dyn(\n{text}\n)"}]})
 
@@ -78,18 +88,36 @@ def as_variable(scope: Any, text: str) -> Any:
     return whole({"variables": variables, "validations": [{"expression": "true"}]})
 
 
-def alone(policy: dict, place: int, **changed: Any) -> dict:
+def alone(policy: dict[str, Any], place: int, **changed: Any) -> dict[str, Any]:
     """The policy with one of its validations alone, which is changed so, and without conditions."""
     spec = {key: value for key, value in policy["spec"].items() if key != "matchConditions"}
     return whole({**spec, "validations": [{**policy["spec"]["validations"][place], **changed}]})
 
 
-def bound(text: str, frames: list) -> str:
-    """The text with each iteration name standing for an item: `frames` are (range, name, place), outermost first.
+# the place in a frame of a macro over an optional value
+OF_OPTIONAL = "value"
 
-    A place that is None stands for any item, of which only the type is asked.
+
+def bound(text: str, frames: list[Any]) -> str:
+    """The text with each iteration name standing for an item: `frames` are (range, names, place), outermost first.
+
+    A place that is None stands for any item, of which only the type is asked. With two names it is the first of them, an
+    int or a text literal; of an optional value it is `OF_OPTIONAL`.
     """
-    for range_text, name, place in reversed(frames):
-        item = "null" if place is None else f"(\n{range_text}\n).map({name}, {name})[{place}]"
-        text = f"[{item}].map({name},\n{text}\n)[0]"
+    for range_text, names, place in reversed(frames):
+        text = in_frame(f"(\n{range_text}\n)", names.split(), place, f"\n{text}\n")
     return text
+
+
+def in_frame(range_text: str, names: list[Any], place: Any, text: str) -> str:
+    """A text with the names of one frame."""
+    if place is None:
+        for name in reversed(names):
+            text = f"[null].map({name},{text})[0]"
+        return text
+    if len(names) > 1:
+        key, value = names
+        return f"[{range_text}[{place}]].map({value}, [{place}].map({key},{text})[0])[0]"
+    name = names[0]
+    item = f"{range_text}.value()" if place == OF_OPTIONAL else f"{range_text}.map({name}, {name})[{place}]"
+    return f"[{item}].map({name},{text})[0]"

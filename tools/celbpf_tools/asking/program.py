@@ -1,5 +1,6 @@
 """Runs of the built program."""
 
+import copy
 import json
 import os
 import subprocess
@@ -31,7 +32,7 @@ MOST_SHOWN = 100_000
 class NotAnswered(Exception):
     """The program refused what it was asked; `line` is what it said, without `celbpf: `."""
 
-    def __init__(self, ran: subprocess.CompletedProcess):
+    def __init__(self, ran: subprocess.CompletedProcess[str]):
         self.line = ran.stderr.removeprefix("celbpf: ").rstrip("\n") or f"status {ran.returncode} and no word"
         # 0 and 1 are decisions
         self.status = ran.returncode if ran.returncode in REFUSALS else FILE
@@ -83,7 +84,7 @@ def installed_one(name: str) -> Path:
     return Path(found)
 
 
-def told_by(words: list) -> str:
+def told_by(words: list[Any]) -> str:
     """What a command of the repository prints; it ends the script if it fails."""
     ended = subprocess.run(words, stdin=subprocess.DEVNULL, stdout=subprocess.PIPE, text=True)
     if ended.returncode:
@@ -119,7 +120,7 @@ class Program:
         self.documents = [str(word) for word in documents]
         self.kept = 0
 
-    def run(self, *words: str) -> subprocess.CompletedProcess:
+    def run(self, *words: str) -> subprocess.CompletedProcess[str]:
         """A run whose status was one that the program has."""
         ran = subprocess.run([self.path, *words], capture_output=True, text=True)
         if ran.returncode not in range(5):
@@ -134,6 +135,24 @@ class Program:
         with open(path, "w") as file:
             json.dump(policy, file)
         return path
+
+    def seen(self, kind: str, documents: Any) -> Any:
+        """Those of these documents that parts of a kind see."""
+        return documents
+
+    def of(self, kind: str) -> "Program":
+        """The program over the documents that parts of a kind see."""
+        made = copy.copy(self)
+        made.documents = self.seen(kind, self.documents)
+        return made
+
+    def document(self, policy: Any) -> dict[str, Any]:
+        """What the policy's document says that is compiled."""
+        return policy if isinstance(policy, dict) else json.loads(Path(policy).read_text(encoding="utf-8"))
+
+    def compilable(self, policy: Any) -> str:
+        """The file of what is compiled for a policy."""
+        return self.file(policy)
 
     def refusal(self, policy: Any) -> str:
         """What `compile` says to a policy, as `K6 validation 0 Y2`; empty where it is accepted."""
@@ -150,7 +169,7 @@ class Program:
             raise NotAnswered(ran)
         return self.image()
 
-    def response(self, policy: Any) -> dict:
+    def response(self, policy: Any) -> dict[str, Any]:
         """The response to the review under a policy."""
         ran = self.run("review", "--policy", self.file(policy), *self.documents)
         if ran.returncode > 1:
@@ -177,17 +196,17 @@ class Program:
             raise NotAnswered(ran)
         return [line for line in ran.stdout.splitlines() if not line.startswith("step ")]
 
-    def verdict(self, policy: str) -> list:
+    def verdict(self, policy: str) -> list[Any]:
         """The lines of `w` at the end of a policy's program."""
         with self.session(self.compiled(policy)) as session:
             session.go()
             return session.ask("w", until="q").splitlines()
 
-    def value(self, policy: dict) -> str:
+    def value(self, policy: dict[str, Any]) -> str:
         """What the first validation of a policy with one validation and no message came to, as `v` shows it."""
         return self.shown(*self.asked(policy))
 
-    def asked(self, policy: dict) -> tuple:
+    def asked(self, policy: dict[str, Any]) -> tuple[Any, ...]:
         """The image of a policy with one validation and no message, and the slot behind its expression."""
         image = self.compiled(policy)
         return image, behind_expression(self.run("list", image).stdout)
@@ -219,14 +238,14 @@ def behind_expression(listing: str) -> int:
 class Session:
     """A session of the debugger, asked line by line."""
 
-    def __init__(self, words: list):
+    def __init__(self, words: list[Any]):
         pipe = subprocess.PIPE
-        self.process = subprocess.Popen(words, stdin=pipe, stdout=pipe, stderr=pipe, text=True, bufsize=1)
+        self.process: Any = subprocess.Popen(words, stdin=pipe, stdout=pipe, stderr=pipe, text=True, bufsize=1)
 
     def __enter__(self) -> "Session":
         return self
 
-    def __exit__(self, *_) -> None:
+    def __exit__(self, *_: object) -> None:
         self.process.kill()
         self.process.communicate()
 

@@ -38,7 +38,7 @@ class Piece:
     begin: int
     end: int
     kind: str = "other"
-    parts: list = field(default_factory=list)
+    parts: list[Any] = field(default_factory=list)
     word: str = ""
     name: str = ""
     form: str = ""
@@ -55,7 +55,7 @@ class Reader:
         self.tokens = list(tokens(text, self.form))
         self.at = 0
 
-    def token(self, ahead: int = 0) -> tuple:
+    def token(self, ahead: int = 0) -> tuple[Any, ...]:
         """The kind and the text of a token, or empty ones behind the last."""
         at = self.at + ahead
         return self.tokens[at][:2] if at < len(self.tokens) else ("", "")
@@ -87,7 +87,7 @@ class Reader:
         self.take(":")
         return self.made(condition.begin, "ternary", [condition, chosen, self.expression()])
 
-    def made(self, begin: int, kind: str, parts: list, **named: str) -> Piece:
+    def made(self, begin: int, kind: str, parts: list[Any], **named: str) -> Piece:
         return Piece(begin, self.end(), kind, parts, **named)
 
     def level(self, number: int) -> Piece:
@@ -106,7 +106,7 @@ class Reader:
             self.take(sign)
         piece = self.member()
         for begin in reversed(begins):
-            piece = self.made(begin, "other", [piece], form={"!": "not", "-": "minus"}[sign])
+            piece = self.made(begin, "other", [piece], form={"!": "not", "-": "minus"}[str(sign)])
         return piece
 
     def is_signed_int(self) -> bool:
@@ -181,9 +181,10 @@ class Reader:
         self.take(":")
         return key, self.expression()
 
-    def series(self, opening: str, part: Callable) -> list:
+    def series(self, opening: str, part: Callable[..., Any]) -> list[Any]:
         """Parts between brackets, with commas between them and perhaps one behind them."""
-        closing, found = CLOSING[self.take(opening)], []
+        closing = CLOSING[self.take(opening)]
+        found: list[Any] = []
         while not self.is_next(closing):
             if found or self.is_next(","):
                 self.take(",")
@@ -194,7 +195,7 @@ class Reader:
         return found
 
 
-def tokens(text: str, form: re.Pattern) -> Iterator:
+def tokens(text: str, form: re.Pattern[str]) -> Iterator[Any]:
     """The tokens of a text by this form: kind, text, begin and end."""
     at = 0
     while at < len(text):

@@ -1,41 +1,22 @@
 """The pieces of an expression that gatekeeper refuses, as it answers for each piece."""
 
-import subprocess
 from dataclasses import dataclass, field
 from typing import Any, Iterator, Optional
 
-from ..entry import Stop
 from .places import Refusals, cause_of
 from .policies import Part, as_variable, bound
-from .program import NotAnswered, Program
 from .splitter import NotCut, Piece
-from .wide_splitter import WidePiece, cut
+from .wide_splitter import WidePiece, cut, namespace_of
 
-REFUSED_START = 3
 # methods that only an optional value has, and those whose argument is one
 OF_OPTIONALS = ("hasValue", "value", "orValue", "or", "optMap", "optFlatMap")
 TAKES_OPTIONAL = ("or", "optFlatMap")
 # methods and macros that make one
 MAKES_OPTIONAL, OVER_OPTIONAL = ("or", "first", "last", "of", "none", "ofNonZeroValue"), ("optMap", "optFlatMap")
 # the methods that there are
-KNOWN = {"size", "startsWith", "endsWith", "contains", *OF_OPTIONALS}
+KNOWN = {"size", "startsWith", "endsWith", "contains", "first", "last", "min", "max", *OF_OPTIONALS}
 # what stands for a piece that is refused, so that what is around it is asked
 VALUE, OPTIONAL = "dyn(null)", "optional.of(dyn(null))"
-# namespaces of functions, which are no names of values
-NAMESPACES = ("sets", "optional", "math", "cel", "lists", "strings", "format", "regex", "base64", "authorizer")
-
-
-class Gatekeeper(Program):
-    """The gatekeeper, asked whether it starts with a policy."""
-
-    def refusal(self, policy: Any) -> str:
-        """What it says at its start, as `K6 validation 0 W5 url`; empty if it starts."""
-        ran = subprocess.run(
-            [self.path, "--policy", self.file(policy)], stdin=subprocess.DEVNULL, capture_output=True, text=True
-        )
-        if ran.returncode not in (0, REFUSED_START):
-            raise Stop(f"the gatekeeper ended with status {ran.returncode}")
-        return NotAnswered(ran).line if ran.returncode else ""
 
 
 @dataclass
@@ -51,12 +32,12 @@ class Found:
     end: int
     name: str = ""
     piece: Optional[Piece] = None
-    around: tuple = ()
-    frames: list = field(default_factory=list)
+    around: tuple[Any, ...] = ()
+    frames: list[Any] = field(default_factory=list)
     text: str = ""
 
 
-def bound_to_optional(text: str, frames: list) -> str:
+def bound_to_optional(text: str, frames: list[Any]) -> str:
     """A text of an optional value, with each iteration name standing for any item."""
     for _, name, _ in reversed(frames):
         text = f"optional.of(dyn(null)).optFlatMap({name},\n{text}\n)"
@@ -66,14 +47,14 @@ def bound_to_optional(text: str, frames: list) -> str:
 class WideRefusals(Refusals):
     """The gatekeeper and a part; which of its pieces are refused with a cause."""
 
-    def refuses_text(self, text: str, frames: list) -> bool:
+    def refuses_text(self, text: str, frames: list[Any]) -> bool:
         """Whether a text is refused so, be it of a value or of an optional one."""
         ways = (bound, bound_to_optional) if frames else (bound,)
         made = (as_variable(self.part.scope, way(text, frames)) for way in ways)
         told = (cause_of(self.program.refusal(policy)) == self.cause for policy in made)
         return all(told) if self.cause == "W4" else any(told)
 
-    def parts(self, piece: Piece, frames: list) -> Iterator:
+    def parts(self, piece: Piece, frames: list[Any]) -> Iterator[Any]:
         """The parts of a piece with the frames in which they are; of a macro by a wrong name the range alone."""
         names = piece.name.split() if piece.kind == "macro" else []
         inner = [*frames, *(("", name, None) for name in names)]
@@ -87,7 +68,7 @@ class WideRefusals(Refusals):
                 return
             yield part, inner if place else frames
 
-    def path(self, piece: Piece, frames: list) -> tuple:
+    def path(self, piece: Piece, frames: list[Any]) -> tuple[Any, ...]:
         """The first of its parts that is refused, as deep as there is one, with those around it; and its frames."""
         for part, inner in self.parts(piece, frames):
             if self.refuses(part, inner):
@@ -140,8 +121,8 @@ class Places:
         (*around, piece), frames = refusals.path(whole, [])
         name = name_of(self.program.refusal(as_variable(self.part.scope, bound(self.text[piece.begin : piece.end], frames))))
         found = self.made(cause, *self.shown(piece, name), name or name_of(refusal))
-        whole = self.made(cause, piece.begin, piece.end, "")
-        found.text = self.part.text[whole.begin : whole.end]
+        all_of_it = self.made(cause, piece.begin, piece.end, "")
+        found.text = self.part.text[all_of_it.begin : all_of_it.end]
         found.piece, found.around, found.frames = piece, tuple(around), frames
         return found
 
@@ -166,7 +147,7 @@ class Places:
         refusals = WideRefusals(self.program, self.part, "")
         return refusals.refuses_text(text, found.frames)
 
-    def shown(self, piece: Piece, name: str) -> tuple:
+    def shown(self, piece: Piece, name: str) -> tuple[int, int]:
         """Where carets stand: under the name of a method that is refused, else under the piece."""
         if piece.parts and name and piece.form == "method" and name == piece.name:
             begin = self.text.index(name, piece.parts[0].end)
@@ -175,8 +156,9 @@ class Places:
 
     def replace(self, found: Found) -> bool:
         """Puts what is accepted in the place of a piece; whether it is another text than before."""
-        piece, around = found.piece, found.around
-        assert piece is not None
+        assert found.piece is not None
+        piece: Piece = found.piece
+        around = found.around
         while around and around[-1].form == "method" and around[-1].parts[0] is piece and around[-1].name not in KNOWN:
             piece, around = around[-1], around[:-1]
         if around and piece.form == "call" and piece.name == "type" and around[-1].form in ("==", "!="):
@@ -191,12 +173,6 @@ class Places:
         return True
 
 
-def namespace_of(piece: Piece) -> str:
-    """The namespace of a function that is called as a method, such as `sets`; empty if there is none."""
-    target = piece.parts[0] if piece.form == "method" else None
-    return target.word if target and target.kind == "leaf" and target.word in NAMESPACES else ""
-
-
 def leaf_at(piece: Piece, at: int) -> Optional[Piece]:
     """The leaf that begins at a place."""
     if piece.kind == "leaf" and piece.begin == at:
@@ -204,7 +180,7 @@ def leaf_at(piece: Piece, at: int) -> Optional[Piece]:
     return next((found for part in piece.parts if (found := leaf_at(part, at))), None)
 
 
-def wants_optional(piece: Piece, around: tuple) -> bool:
+def wants_optional(piece: Piece, around: tuple[Any, ...]) -> bool:
     """Whether what is around a piece takes an optional value in its place; of a whole, whether it looks like one."""
     if not around:
         return piece.word == "?" or (piece.form == "method" and piece.name in MAKES_OPTIONAL) or piece.word in OVER_OPTIONAL

@@ -6,6 +6,7 @@ int it is the text itself. Parts of a list or a map after a question mark are in
 
 import re
 from dataclasses import dataclass, field
+from typing import Any
 
 from . import splitter
 from .splitter import NotCut, Piece
@@ -30,13 +31,15 @@ PAIRS = {
 OVER_OPTIONAL = {("optMap", 2): 1, ("optFlatMap", 2): 1}
 # no macro, and written as one
 LIKE_MACROS = {("existsOne", 2): 1}
+# namespaces of functions, which are no names of values
+NAMESPACES = ("sets", "optional", "math", "cel", "lists", "strings", "format", "regex", "base64", "authorizer")
 
 
 @dataclass
 class WidePiece(Piece):
     """A piece, with those of its parts that follow a question mark."""
 
-    optional: list = field(default_factory=list)
+    optional: list[Any] = field(default_factory=list)
 
 
 class Reader(splitter.Reader):
@@ -45,7 +48,7 @@ class Reader(splitter.Reader):
     form = TOKEN
     macros = {**splitter.Reader.macros, **PAIRS, **OVER_OPTIONAL, **LIKE_MACROS}
 
-    def made(self, begin: int, kind: str, parts: list, **named: str) -> Piece:
+    def made(self, begin: int, kind: str, parts: list[Any], **named: Any) -> Piece:
         return WidePiece(begin, self.end(), kind, parts, **named)
 
     def takes_mark(self) -> str:
@@ -96,7 +99,7 @@ class Reader(splitter.Reader):
         made = self.made(begin, "other", [part for one in found for part in one[1:]], form="map")
         return self.with_optional(made, found)
 
-    def with_optional(self, piece: Piece, found: list) -> Piece:
+    def with_optional(self, piece: Piece, found: list[Any]) -> Piece:
         """The piece of a literal, with its parts after a question mark, of an entry the value."""
         assert isinstance(piece, WidePiece)
         piece.optional = [one[-1] for one in found if one[0]]
@@ -106,3 +109,14 @@ class Reader(splitter.Reader):
 def cut(text: str) -> Piece:
     """The piece that is the whole expression, with its parts."""
     return splitter.cut(text, Reader)
+
+
+def namespace_of(piece: Piece) -> str:
+    """The namespace of a function that is called as a method, such as `sets`; empty if there is none."""
+    target = piece.parts[0] if piece.form == "method" else None
+    return target.word if target and target.kind == "leaf" and target.word in NAMESPACES else ""
+
+
+def is_over_optional(piece: Piece) -> bool:
+    """Whether a piece is a macro over an optional value."""
+    return piece.kind == "macro" and (piece.word, 2) in OVER_OPTIONAL

@@ -25,7 +25,7 @@ NO_BROWSER = 10
 
 def located() -> str:
     """The browser in the path."""
-    found = next(filter(None, map(shutil.which, NAMES)), None)
+    found = next((path for path in (shutil.which(name) for name in NAMES) if path), None)
     if not found:
         raise Stop("there is no command chromium in the path; Debian has it as the package chromium", NO_BROWSER)
     return found
@@ -34,11 +34,11 @@ def located() -> str:
 class Browser:
     """A headless browser with a profile of its own, which is ended with it."""
 
-    def __init__(self):
+    def __init__(self) -> None:
         self.folder = tempfile.TemporaryDirectory()
         words = [located(), *WORDS, PORT, f"--user-data-dir={self.folder.name}", "about:blank"]
-        quiet = {"stdout": subprocess.DEVNULL, "stderr": subprocess.DEVNULL, "stdin": subprocess.DEVNULL}
-        self.process = subprocess.Popen(words, **quiet)
+        null = subprocess.DEVNULL
+        self.process = subprocess.Popen(words, stdin=null, stdout=null, stderr=null)
         self.port = self.listened()
 
     def listened(self) -> int:
@@ -73,13 +73,13 @@ class Page:
     def __init__(self, socket: WebSocket):
         self.socket = socket
         self.asked = 0
-        self.events: list = []
-        self.errors: list = []
-        self.requests: list = []
+        self.events: list[Any] = []
+        self.errors: list[Any] = []
+        self.requests: list[Any] = []
         for domain in ("Runtime", "Log", "Network", "Page"):
             self.call(f"{domain}.enable")
 
-    def take(self) -> dict:
+    def take(self) -> dict[str, Any]:
         """The next message, kept if it is an event."""
         message = json.loads(self.socket.receive())
         if "method" in message:
@@ -87,7 +87,7 @@ class Page:
             self.note(message["method"], message["params"])
         return message
 
-    def note(self, name: str, given: dict) -> None:
+    def note(self, name: str, given: dict[str, Any]) -> None:
         """Keeps errors and requests."""
         if name == "Runtime.exceptionThrown":
             self.errors.append(given["exceptionDetails"].get("exception", {}).get("description", "an exception"))
@@ -98,7 +98,7 @@ class Page:
         elif name == "Network.requestWillBeSent":
             self.requests.append(given["request"]["url"])
 
-    def call(self, name: str, **given: Any) -> dict:
+    def call(self, name: str, **given: Any) -> dict[str, Any]:
         """The result of a command to the browser."""
         self.asked += 1
         self.socket.send(json.dumps({"id": self.asked, "method": name, "params": given}))
@@ -136,5 +136,5 @@ class Page:
 
     def picture(self, quality: Optional[int] = None) -> bytes:
         """A picture of what is shown: PNG, or WebP of a quality."""
-        given = {"format": "png"} if quality is None else {"format": "webp", "quality": quality}
+        given: dict[str, Any] = {"format": "png"} if quality is None else {"format": "webp", "quality": quality}
         return base64.b64decode(self.call("Page.captureScreenshot", **given)["data"])

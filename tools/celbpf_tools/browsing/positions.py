@@ -1,6 +1,6 @@
 """Moves the slider of a page, and compares what it shows with a session of the debugger at the same steps."""
 
-from typing import Iterator
+from typing import Any, Iterator
 
 from ..asking.program import Program
 from ..viewing.recording import REGISTERS, said
@@ -30,7 +30,7 @@ STEP = f"Number({AT}.split(' ')[1])"
 KEYS = {"ArrowRight": 39, "ArrowLeft": 37, "PageDown": 34, "PageUp": 33, "Home": 36, "End": 35}
 
 
-def sessions(program: Program, image: str, shown: list) -> list:
+def sessions(program: Program, image: str, shown: list[Any]) -> list[Any]:
     """For each position the lines of a session: the move, the registers, the frames, the listing, values and words."""
     asked = ""
     for step, one in enumerate(shown):
@@ -38,7 +38,7 @@ def sessions(program: Program, image: str, shown: list) -> list:
     return said(program, image, asked)
 
 
-def questions(one: dict) -> list:
+def questions(one: dict[str, Any]) -> list[Any]:
     """What is asked for the values and the words of frames that a position shows, with what it shows of each."""
     found = []
     for name, shown, value in one["registers"]:
@@ -62,22 +62,22 @@ def answered(asked: str, line: str) -> str:
 class Compared:
     """The lines of a session, and how many of them were compared."""
 
-    def __init__(self, lines: list):
+    def __init__(self, lines: list[Any]):
         self.lines = lines
         self.at = 0
 
-    def take(self, count: int) -> list:
+    def take(self, count: int) -> list[Any]:
         self.at += count
         return self.lines[self.at - count : self.at]
 
-    def listing(self) -> list:
+    def listing(self) -> list[Any]:
         """The answer to `l`, which ends before the line of a value, of memory or of the next move."""
         begin = self.at
         while self.at < len(self.lines) and self.lines[self.at].split(" ", 1)[0].isdigit():
             self.at += 1
         return self.lines[begin : self.at]
 
-    def position(self, one: dict) -> Iterator[str]:
+    def position(self, one: dict[str, Any]) -> Iterator[str]:
         """What a position shows otherwise than the session."""
         (move,) = self.take(1)
         if one["at"] != move:
@@ -99,7 +99,7 @@ class Compared:
                 yield f"{move}: {asked} is {line}, shown as {value}"
 
 
-def positions_faults(page: Page, program: Program, image: str) -> tuple:
+def positions_faults(page: Page, program: Program, image: str) -> tuple[Any, ...]:
     """How many positions were compared, and what they show otherwise than a session."""
     shown = page.value(SHOWN)
     compared = Compared(sessions(program, image, shown))

@@ -4,6 +4,7 @@ import base64
 import os
 import socket
 import struct
+from typing import Any
 
 TEXT, CLOSE, PING, PONG = 1, 8, 9, 10
 LAST, MASKED = 0x80, 0x80
@@ -55,7 +56,7 @@ class WebSocket:
     def send(self, text: str) -> None:
         self.socket.sendall(frame(TEXT, text.encode(), os.urandom(4)))
 
-    def one_frame(self) -> tuple:
+    def one_frame(self) -> tuple[Any, ...]:
         """Whether a frame is the last of its message, its kind and its content."""
         first, second = self.taken(2)
         length = second & ~MASKED

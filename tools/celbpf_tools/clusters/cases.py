@@ -3,7 +3,9 @@
 import re
 import subprocess
 import tempfile
-from dataclasses import dataclass, field as member, replace
+from dataclasses import dataclass
+from dataclasses import field as member
+from dataclasses import replace
 from pathlib import Path
 from typing import Any, Callable, Iterator, Optional
 
@@ -27,13 +29,13 @@ def file_of(place: Any) -> str:
 class Case:
     """The lists of a state, whether `--partial` is given, and the reviews."""
 
-    lists: list
+    lists: list[Any]
     partial: bool
-    reviews: list
+    reviews: list[Any]
 
-    def words(self, folder: Path) -> list:
+    def words(self, folder: Path) -> list[Any]:
         """Writes the lists into a folder; the arguments that name them there."""
-        made: list = []
+        made: list[Any] = []
         for place, text in enumerate(self.lists):
             (folder / file_of(place)).write_bytes(text)
             made += ["--cluster", file_of(place)]
@@ -44,9 +46,9 @@ class Case:
 class Answers:
     """The lines that answer the reviews, and those of standard error; or why the state is refused."""
 
-    lines: list
+    lines: list[Any]
     refusal: str = ""
-    errors: list = member(default_factory=list)
+    errors: list[Any] = member(default_factory=list)
 
 
 def cases(numbers: Numbers, reviews: int) -> Iterator[Case]:
@@ -66,7 +68,7 @@ def due(case: Case) -> Answers:
     return Answers([response.answer(opened, review) for review in case.reviews], errors=starting.policy_lines(opened))
 
 
-def found(program: Any, case: Case) -> subprocess.CompletedProcess:
+def found(program: Any, case: Case) -> subprocess.CompletedProcess[bytes]:
     """How a gatekeeper ends that reads the profile, as the evaluator does."""
     with tempfile.TemporaryDirectory() as folder:
         words = [Path(program).resolve(), "--profile", *case.words(Path(folder))]
@@ -74,7 +76,7 @@ def found(program: Any, case: Case) -> subprocess.CompletedProcess:
         return subprocess.run(words, input=lines, cwd=folder, capture_output=True, timeout=SECONDS, check=False)
 
 
-def difference(case: Case, wanted: Answers, ended: subprocess.CompletedProcess) -> Optional[str]:
+def difference(case: Case, wanted: Answers, ended: subprocess.CompletedProcess[bytes]) -> Optional[str]:
     """The first difference between what is due and how a gatekeeper ended, or None."""
     errors, due_errors = ended.stderr.decode(errors="replace"), "".join(f"{line}\n" for line in wanted.errors)
     if errors != due_errors:
@@ -91,7 +93,7 @@ def difference(case: Case, wanted: Answers, ended: subprocess.CompletedProcess) 
     return None
 
 
-def shown(ended: subprocess.CompletedProcess) -> str:
+def shown(ended: subprocess.CompletedProcess[bytes]) -> str:
     return f"is {len(ended.stdout)} bytes of output, and status {ended.returncode}"
 
 

@@ -2,7 +2,7 @@
 
 import re
 from collections import Counter
-from typing import Iterator
+from typing import Any, Iterator
 
 from .cases import Answers
 
@@ -45,8 +45,8 @@ class Counts:
     """How often each kind of answer and of start is due."""
 
     def __init__(self) -> None:
-        self.lines: Counter = Counter()
-        self.starts: Counter = Counter()
+        self.lines: Counter[Any] = Counter()
+        self.starts: Counter[Any] = Counter()
         self.answers = self.opened = 0
 
     def add(self, wanted: Answers) -> None:
@@ -58,7 +58,7 @@ class Counts:
         for line in wanted.lines:
             self.lines.update(name for name, pattern in FOUND.items() if pattern.search(line))
 
-    def never(self) -> list:
+    def never(self) -> list[Any]:
         """What was due nowhere."""
         return [name for name in LINES if not self.lines[name]] + [name for name in STARTS if not self.starts[name]]
 

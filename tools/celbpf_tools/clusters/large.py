@@ -1,6 +1,6 @@
 """Large states: one as clusters have it, to measure how fast requests are answered, and hostile ones."""
 
-from typing import Callable, Iterator
+from typing import Any, Callable, Iterator
 
 from .making import binding, policy, request, rule, thing
 
@@ -15,7 +15,7 @@ DEEPEST = 120
 MANY, SOME = 100_000, 10_000
 
 
-def small_policy(place: int) -> dict:
+def small_policy(place: int) -> dict[str, Any]:
     """One of the policies: of those that match, two take params and two select namespaces."""
     name = f"p{place:02}"
     if place % EVERY:
@@ -29,22 +29,22 @@ def small_policy(place: int) -> dict:
     return policy(name, rules=rules, constraints=selected, validations=[{"expression": f"object.spec.replicas <= {place + 7}"}])
 
 
-def small_binding(place: int) -> dict:
+def small_binding(place: int) -> dict[str, Any]:
     """The binding of a policy, with a reference that counts only if it takes params."""
     reference = {"name": "c0", "namespace": "default", "parameterNotFoundAction": "Deny"}
     return binding(f"b{place:02}", f"p{place:02}", paramRef=reference)
 
 
-def param(name: str, space: str) -> dict:
+def param(name: str, space: str) -> dict[str, Any]:
     return {**thing("ConfigMap", name, namespace=space), "data": {"most": "100"}}
 
 
-def matching() -> list:
+def matching() -> list[Any]:
     """The policies that match the requests of the measure, and the params of two."""
     return [*(small_policy(place) for place in range(0, POLICIES, EVERY)), param("c0", "default")]
 
 
-def state() -> list:
+def state() -> list[Any]:
     """The items of the state that is measured."""
     spaces = ["default", *(f"n{place:03}" for place in range(1, NAMESPACES))]
     made = [small_policy(place) for place in range(POLICIES)]
@@ -53,19 +53,19 @@ def state() -> list:
     return made + [param(f"c{place // NAMESPACES}", spaces[place % NAMESPACES]) for place in range(CONFIG_MAPS)]
 
 
-def nested(depth: int) -> list:
+def nested(depth: int) -> list[Any]:
     """A list in a list, and so on."""
-    value: list = []
+    value: list[Any] = []
     for _ in range(depth):
         value = [value]
     return value
 
 
-def with_space(*items: dict) -> list:
+def with_space(*items: dict[str, Any]) -> list[Any]:
     return [thing("Namespace", "default", labels={"env": "prod"}), *items]
 
 
-def of_params(count: int, **spec: object) -> list:
+def of_params(count: int, **spec: Any) -> list[Any]:
     """A policy that is evaluated for each of many params, and fails for each with a warning of its own."""
     named = [{"expression": "false", "messageExpression": "params.metadata.name"}]
     found = {"selector": {}, "parameterNotFoundAction": "Deny"}
@@ -73,19 +73,19 @@ def of_params(count: int, **spec: object) -> list:
     return with_space(policy(paramKind=CONFIG_MAP, validations=named, **spec), binding(actions=["Warn"], paramRef=found), *params)
 
 
-def selecting(count: int) -> dict:
+def selecting(count: int) -> dict[str, Any]:
     """A selector of many requirements, of which the last does not fit."""
     made = [{"key": f"k{place}", "operator": "NotIn", "values": ["a", "b"]} for place in range(count)]
     return {"matchExpressions": [*made, {"key": "env", "operator": "NotIn", "values": ["prod"]}]}
 
 
-def many_policies() -> Iterator[dict]:
+def many_policies() -> Iterator[dict[str, Any]]:
     for place in range(MANY):
         yield policy(f"p{place}", rules=[rule(["pods"])])
         yield binding(f"b{place}", f"p{place}")
 
 
-HOSTILE: dict[str, Callable[[], list]] = {
+HOSTILE: dict[str, Callable[[], list[Any]]] = {
     "nested": lambda: with_space(policy(), binding(), {**thing("ConfigMap", "c"), "data": nested(DEEPEST)}),
     "policies": lambda: with_space(*many_policies()),
     "bindings": lambda: with_space(policy(), *(binding(f"b{place}") for place in range(MANY))),
@@ -97,7 +97,7 @@ HOSTILE: dict[str, Callable[[], list]] = {
 }
 
 
-def hostile_request() -> dict:
+def hostile_request() -> dict[str, Any]:
     """A request that the policies of hostile states look at."""
     thing_asked = {"apiVersion": "apps/v1", "kind": "Deployment", "metadata": {"name": "web", "namespace": "default"}}
     return request("Deployment", DEPLOYMENT, namespace="default", object=thing_asked)

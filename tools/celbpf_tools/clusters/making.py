@@ -8,14 +8,16 @@ REVIEW = {"apiVersion": "admission.k8s.io/v1", "kind": "AdmissionReview"}
 ANY = ("*",)
 
 
-def rule(resources: Iterable = ANY, groups: Iterable = ANY, versions: Iterable = ANY, operations: Iterable = ANY, **more: Any) -> dict:
+def rule(
+    resources: Iterable[str] = ANY, groups: Iterable[str] = ANY, versions: Iterable[str] = ANY, operations: Iterable[str] = ANY, **more: Any
+) -> dict[str, Any]:
     lists = {"resources": resources, "apiGroups": groups, "apiVersions": versions, "operations": operations}
     return {**{key: list(value) for key, value in lists.items()}, **more}
 
 
-def policy(name: str = "p", rules: Optional[list] = None, constraints: Optional[dict] = None, **spec: Any) -> dict:
+def policy(name: str = "p", rules: Optional[list[Any]] = None, constraints: Optional[dict[str, Any]] = None, **spec: Any) -> dict[str, Any]:
     """A policy as kubectl prints it; without rules it is for all resources, without validations it admits."""
-    whole = {
+    whole: dict[str, Any] = {
         "failurePolicy": "Fail",
         "matchConstraints": {"resourceRules": [rule()] if rules is None else rules, **(constraints or {})},
         "validations": [{"expression": "true"}],
@@ -25,24 +27,24 @@ def policy(name: str = "p", rules: Optional[list] = None, constraints: Optional[
     return {**made, "spec": whole, "status": {"observedGeneration": 1}}
 
 
-def binding(name: str = "b", policy_name: str = "p", actions: Iterable = ("Deny",), **more: Any) -> dict:
+def binding(name: str = "b", policy_name: str = "p", actions: Iterable[Any] = ("Deny",), **more: Any) -> dict[str, Any]:
     made = thing("ValidatingAdmissionPolicyBinding", name, f"{GROUP}/v1")
     return {**made, "spec": {"policyName": policy_name, "validationActions": list(actions), **more}}
 
 
-def thing(kind: str, name: str, version: str = "v1", **metadata: Any) -> dict:
+def thing(kind: str, name: str, version: str = "v1", **metadata: Any) -> dict[str, Any]:
     """An object of a kind."""
     return {"apiVersion": version, "kind": kind, "metadata": {"name": name, **metadata}}
 
 
-def definition(group: str, kind: str, plural: str, scope: str = "Namespaced", versions: Iterable = ("v1",)) -> dict:
+def definition(group: str, kind: str, plural: str, scope: str = "Namespaced", versions: Iterable[Any] = ("v1",)) -> dict[str, Any]:
     """A CustomResourceDefinition that serves these versions."""
     made = thing("CustomResourceDefinition", f"{plural}.{group}", "apiextensions.k8s.io/v1")
     served = [{"name": name, "served": True} for name in versions]
     return {**made, "spec": {"group": group, "names": {"kind": kind, "plural": plural}, "scope": scope, "versions": served}}
 
 
-def request(kind: str, resource: tuple, operation: str = "CREATE", **more: Any) -> dict:
+def request(kind: str, resource: tuple[Any, ...], operation: str = "CREATE", **more: Any) -> dict[str, Any]:
     """A request for `web`, which has an object of this name if the operation writes."""
     group, version, plural = resource
     given = {
@@ -58,11 +60,11 @@ def request(kind: str, resource: tuple, operation: str = "CREATE", **more: Any) 
     return given
 
 
-def list_text(items: list) -> bytes:
+def list_text(items: list[Any]) -> bytes:
     """A List of items."""
     return json.dumps({"apiVersion": "v1", "kind": "List", "items": items}, ensure_ascii=False).encode()
 
 
-def review_text(given: dict) -> bytes:
+def review_text(given: dict[str, Any]) -> bytes:
     """A review of a request, on one line."""
     return json.dumps({**REVIEW, "request": given}, ensure_ascii=False).encode()

@@ -30,7 +30,7 @@ ACTIONS = [
 ]
 UNSTORABLE_ACTIONS = [[], ["Deny", "Warn"], ["Warn", "Audit", "Deny"], ["Audit", "Audit"], ["deny"], "Deny", None, [1]]
 # parts of a specification that no cluster stores
-UNSTORABLE_PARTS: list = [
+UNSTORABLE_PARTS: list[Any] = [
     {"paramKind": {"kind": "ConfigMap"}}, {"paramKind": {"apiVersion": "v1", "kind": ""}}, {"paramKind": {**LIMIT, "x": 1}},
     {"matchConstraints": None},
 ]
@@ -53,7 +53,7 @@ class Policies(Selecting):
         super().__init__(numbers, spoils)
         self.refuses = refuses
 
-    def validation(self) -> dict:
+    def validation(self) -> dict[str, Any]:
         numbers = self.numbers
         made = {"expression": numbers.pick(EXPRESSIONS)}
         if numbers.one_in(2):
@@ -64,15 +64,15 @@ class Policies(Selecting):
             made["reason"] = numbers.pick(REASONS)
         return made
 
-    def conditions(self) -> list:
+    def conditions(self) -> list[Any]:
         numbers = self.numbers
         count = numbers.pick([0, 0, 0, 0, 1, 2])
         return [{"name": f"c{place}", "expression": numbers.pick(CONDITIONS)} for place in range(count)]
 
-    def kind(self) -> Optional[dict]:
+    def kind(self) -> Optional[dict[str, Any]]:
         return self.numbers.pick([None, None, CONFIG_MAP, CONFIG_MAP, LIMIT, NAMESPACE, *([LIMIT] * 4 if self.refuses else [])])
 
-    def policy(self, name: str) -> dict:
+    def policy(self, name: str) -> dict[str, Any]:
         """A policy, with what kubectl prints beside its specification."""
         numbers = self.numbers
         spec: dict[str, Any] = {
@@ -94,7 +94,7 @@ class Policies(Selecting):
         made = making.thing("ValidatingAdmissionPolicy", name, f"{making.GROUP}/v1")
         return {**made, "metadata": metadata, "spec": spec, "status": {"observedGeneration": 1, "typeChecking": {}}}
 
-    def reference(self) -> dict:
+    def reference(self) -> dict[str, Any]:
         """Where params are."""
         numbers = self.numbers
         made: dict[str, Any] = {"parameterNotFoundAction": numbers.pick(["Deny", "Deny", "Allow"])}
@@ -108,7 +108,7 @@ class Policies(Selecting):
             made.update(numbers.pick([{"name": "a", "selector": {}}, {"name": "", "selector": None}, {"parameterNotFoundAction": "deny"}]))
         return made
 
-    def binding(self, name: str, policy_name: str) -> dict:
+    def binding(self, name: str, policy_name: str) -> dict[str, Any]:
         numbers = self.numbers
         made: dict[str, Any] = {"policyName": policy_name, "validationActions": numbers.pick(ACTIONS)}
         if numbers.one_in(2):

@@ -9,7 +9,7 @@ from .selecting import Selecting
 from .words import CORE_NAMESPACE, KINDS, NAMES, NAMESPACES, OPERATIONS, RARE_KINDS, Kind
 
 # what a request may not have
-SPOILS: list = [
+SPOILS: list[Any] = [
     {"kind": None}, {"resource": {"version": "v1"}}, {"operation": "PATCH"}, {"operation": None}, {"name": 1}, {"namespace": []},
     {"object": "a"}, {"oldObject": 1}, {"object": None}, {"uid": 1}, {"subResource": {}},
     {"kind": {"version": "v1", "kind": "Pod", "group": 1}},
@@ -25,7 +25,7 @@ class Requests:
         self.selecting = Selecting(numbers, False)
         self.count = 0
 
-    def thing(self, kind: Kind, name: str, space: str) -> dict:
+    def thing(self, kind: Kind, name: str, space: str) -> dict[str, Any]:
         """An object, with labels, without metadata, or with a name that is yet to be generated."""
         numbers = self.numbers
         metadata: dict[str, Any] = {"name": name} if name else {"generateName": numbers.pick(["web-", "", None])}
@@ -35,7 +35,7 @@ class Requests:
             metadata["labels"] = self.selecting.labels() if not numbers.one_in(10) else numbers.pick([{"env": 1, "team": "a"}, None, "env"])
         if numbers.one_in(20 if name else 3):
             metadata = numbers.pick([None, None, {}, "a", {"name": 1, "generateName": "g-"}])
-        made = {"apiVersion": f"{kind.group}/{kind.version}".lstrip("/"), "kind": kind.kind, "metadata": metadata}
+        made: dict[str, Any] = {"apiVersion": f"{kind.group}/{kind.version}".lstrip("/"), "kind": kind.kind, "metadata": metadata}
         if numbers.one_in(2):
             made["spec"] = {"on": numbers.one_in(2)} if not numbers.one_in(12) else {"share": 0.5}
         if metadata is None and numbers.one_in(2):
@@ -65,9 +65,10 @@ class Requests:
             return "" if numbers.one_in(6) else None
         return numbers.pick(kind.subresources)
 
-    def objects(self, kind: Kind, operation: str, name: str, space: str) -> dict:
+    def objects(self, kind: Kind, operation: str, name: str, space: str) -> dict[str, Any]:
         """The objects that an operation has."""
-        numbers, made = self.numbers, {}
+        numbers = self.numbers
+        made: dict[str, Any] = {}
         if operation in ("CREATE", "UPDATE"):
             made["object"] = self.thing(kind, name, space)
         elif operation == "CONNECT":
@@ -78,7 +79,7 @@ class Requests:
             made["oldObject"] = self.thing(kind, name, space)
         return made
 
-    def asked_first(self, kind: Kind, sub: Optional[str]) -> dict:
+    def asked_first(self, kind: Kind, sub: Optional[str]) -> dict[str, Any]:
         """What the client asked for, mostly the same."""
         numbers = self.numbers
         version = kind.version if not numbers.one_in(30) else "v9"
@@ -88,7 +89,7 @@ class Requests:
             made["requestSubResource"] = sub if not numbers.one_in(30) else "other"
         return made
 
-    def request(self) -> dict:
+    def request(self) -> dict[str, Any]:
         numbers = self.numbers
         kind = numbers.pick(RARE_KINDS if numbers.one_in(12) else KINDS)
         sub = self.subresource(kind)
@@ -113,5 +114,5 @@ class Requests:
         self.count += 1
         if self.numbers.one_in(60):
             return self.numbers.pick(NO_REVIEWS)
-        whole = {**making.REVIEW, "request": self.request()}
+        whole: dict[str, Any] = {**making.REVIEW, "request": self.request()}
         return json.dumps(whole, ensure_ascii=self.numbers.one_in(2)).encode()

@@ -31,14 +31,14 @@ class Selecting:
     def is_spoiled(self, rarely: int) -> bool:
         return self.spoils and self.numbers.one_in(rarely)
 
-    def some(self, values: list, most: int) -> list:
+    def some(self, values: list[Any], most: int) -> list[Any]:
         """At least one of a list, and at most this number."""
         return self.numbers.some(values, most - 1) or [self.numbers.pick(values)]
 
-    def labels(self) -> dict:
+    def labels(self) -> dict[str, Any]:
         return {self.numbers.pick(KEYS): self.numbers.pick(VALUES) for _ in range(self.numbers.below(3))}
 
-    def requirement(self) -> dict:
+    def requirement(self) -> dict[str, Any]:
         numbers = self.numbers
         made: dict[str, Any] = {"key": numbers.pick(KEYS), "operator": numbers.pick(["In", "NotIn", "Exists", "DoesNotExist"])}
         if made["operator"] in ("In", "NotIn"):
@@ -47,7 +47,7 @@ class Selecting:
             made["values"] = numbers.pick([[], None])
         return made
 
-    def selector(self) -> dict:
+    def selector(self) -> dict[str, Any]:
         """A selector, which may be empty in one of several ways."""
         numbers = self.numbers
         if self.is_spoiled(12):
@@ -61,14 +61,14 @@ class Selecting:
             return numbers.pick([{}, {"matchLabels": {}, "matchExpressions": []}, {"matchLabels": None}, {"matchLabels": {LONGEST: "x"}}])
         return {"matchLabels": {"env": numbers.pick(VALUES)}, "matchExpressions": [self.requirement()]}
 
-    def patterns(self, kind: Kind) -> list:
+    def patterns(self, kind: Kind) -> list[Any]:
         """Patterns for a kind's resource."""
         numbers, plural = self.numbers, kind.plural
         sub = numbers.pick(kind.subresources)
         choices = [[plural], [plural], ["*"], ["*"], [f"{plural}/*"], [f"{plural}/{sub}"], [plural, f"{plural}/{sub}"]]
         return numbers.pick([*choices, ["*/*"], ["*/*"], [f"*/{sub}"], ["/"], [f"{plural}/"], [f"/{sub}"], [f"{plural}/*/*"], []])
 
-    def rule(self) -> dict:
+    def rule(self) -> dict[str, Any]:
         """A rule, mostly for one kind."""
         numbers, kind = self.numbers, self.numbers.pick(KINDS)
         other = numbers.pick(KINDS)
@@ -88,19 +88,19 @@ class Selecting:
             made.update(numbers.pick([{"scope": "namespaced"}, {"resources": "pods"}, {"verbs": ["get"]}, {"operations": [1]}]))
         return made
 
-    def everything(self) -> dict:
+    def everything(self) -> dict[str, Any]:
         """A rule for all main resources, or for subresources too."""
         made = making.rule([self.numbers.pick(["*", "*", "*/*"])])
         return {**made, "scope": self.numbers.pick(["Cluster", "Namespaced"])} if self.numbers.one_in(4) else made
 
-    def rules(self) -> list:
+    def rules(self) -> list[Any]:
         """One to three rules; every other time one for everything."""
         numbers = self.numbers
         if numbers.one_in(2):
             return [self.everything()]
         return [self.rule() for _ in range(1 + numbers.below(3))]
 
-    def selectors(self) -> dict:
+    def selectors(self) -> dict[str, Any]:
         """Match policy, selectors and excluded rules, each of which may be absent."""
         numbers = self.numbers
         made: dict[str, Any] = {}
@@ -116,13 +116,13 @@ class Selecting:
             made.update(numbers.pick([{"matchPolicy": "equivalent"}, {"rules": []}, {"excludeResourceRules": {}}]))
         return made
 
-    def constraints(self) -> dict:
+    def constraints(self) -> dict[str, Any]:
         """Which requests a policy is for."""
         if self.is_spoiled(15):
             return {"resourceRules": []}
         return {"resourceRules": self.rules(), **self.selectors()}
 
-    def resources(self) -> Optional[dict]:
+    def resources(self) -> Optional[dict[str, Any]]:
         """Which requests a binding is for: mostly all."""
         numbers = self.numbers
         if not numbers.one_in(3):

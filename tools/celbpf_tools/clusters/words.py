@@ -1,6 +1,7 @@
 """The few names, labels and resources that states and requests have in common, so that they often meet."""
 
 from dataclasses import dataclass
+from typing import Any
 
 
 @dataclass(frozen=True)
@@ -12,10 +13,10 @@ class Kind:
     kind: str
     plural: str
     namespaced: bool = True
-    subresources: tuple = ("status", "status", "a/b")
+    subresources: tuple[Any, ...] = ("status", "status", "a/b")
 
     @property
-    def resource(self) -> tuple:
+    def resource(self) -> tuple[Any, ...]:
         return self.group, self.version, self.plural
 
 

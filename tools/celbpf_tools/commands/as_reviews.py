@@ -60,19 +60,19 @@ class Making:
         for things in (self.states, self.old, self.new):
             self.resources.define(things)
 
-    def unknown(self) -> list:
+    def unknown(self) -> list[Any]:
         """The kinds that are not known."""
         found = [kind_shown(thing) for thing in self.old + self.new if self.resources.of(thing) is None]
         return list(dict.fromkeys(found))
 
-    def known(self, things: list) -> Iterator[tuple]:
+    def known(self, things: list[Any]) -> Iterator[tuple[Any, ...]]:
         """Each object of a known kind in its namespace, with its resource."""
         for thing in things:
             resource = self.resources.of(thing)
             if resource is not None:
                 yield placed(thing, resource, self.given.namespace), resource
 
-    def reviews(self) -> Iterator[dict]:
+    def reviews(self) -> Iterator[dict[str, Any]]:
         """The reviews, in the order of the objects."""
         old_objects = OldObjects()
         for thing, resource in self.known(self.old):

@@ -14,6 +14,7 @@ the types that the code has, are not counted.
 
 import re
 import sys
+from typing import Any
 
 from ..definitions import modules as read_modules
 from ..home import ROOT
@@ -36,7 +37,7 @@ WIDEST = 140
 WORD = re.compile(r"[A-Za-z_][\w\-']*(?:\.[A-Za-z_][\w\-']*)*")
 
 
-def rests_on(modules: dict, file: str, name: str) -> set:
+def rests_on(modules: dict[str, Any], file: str, name: str) -> set[Any]:
     """The definitions that one rests on, by their module and their name."""
     found, waiting = set(), [("Rattle." + file.removesuffix(".antt").replace("/", "."), name)]
     while waiting:
@@ -53,7 +54,7 @@ def rests_on(modules: dict, file: str, name: str) -> set:
     return found
 
 
-def print_list(modules: dict, found: set) -> None:
+def print_list(modules: dict[str, Any], found: set[Any]) -> None:
     for at in sorted({at for at, _ in found}):
         of = {name: it for name, it in modules[at].definitions.items() if (at, name) in found}
         print(f"{modules[at].file}: {len(of)} definitions, {sum(len(it.lines) for it in of.values())} lines")
@@ -61,12 +62,12 @@ def print_list(modules: dict, found: set) -> None:
             print(f"{it.place:5} {len(it.lines):3} {' ' if it.has_sentence else '*'} {name}")
 
 
-def sizes(modules: dict, found: set) -> tuple:
+def sizes(modules: dict[str, Any], found: set[Any]) -> tuple[Any, ...]:
     """How many definitions, lines and files."""
     return len(found), sum(len(modules[at].definitions[name].lines) for at, name in found), len({at for at, _ in found})
 
 
-def total(modules: dict, found: set) -> str:
+def total(modules: dict[str, Any], found: set[Any]) -> str:
     of = [modules[at].definitions[name] for at, name in found]
     definitions, lines, files = sizes(modules, found)
     return (
@@ -76,7 +77,7 @@ def total(modules: dict, found: set) -> str:
     )
 
 
-def right_page(modules: dict, text: str) -> tuple:
+def right_page(modules: dict[str, Any], text: str) -> tuple[Any, ...]:
     """The page with the sizes of the contracts, and what its walk lacks: files that count, or lines of those it has.
 
     The walk counts for the program, and its last step for the gatekeeper.
@@ -97,7 +98,7 @@ def right_page(modules: dict, text: str) -> tuple:
     return right, lacks + [f"the walk has {at}, of which nothing counts" for at in counts if not counts[at]]
 
 
-def compare_page(modules: dict, is_written: bool) -> int:
+def compare_page(modules: dict[str, Any], is_written: bool) -> int:
     text = PAGE.read_text()
     right, lacks = right_page(modules, text)
     differing = [pair for pair in zip(text.splitlines(), right.splitlines()) if pair[0] != pair[1]]
@@ -120,7 +121,7 @@ def main() -> int:
         return compare_page(modules, bool(words[1:]))
     if words and (len(words) != 2 or not rests_on(modules, *words)):
         sys.exit(__doc__.split("\n\n")[1] if len(words) != 2 else f"belief: no definition {words[1]} in {words[0]}")
-    for file, name in [words] if words else CONTRACTS:
+    for file, name in [(words[0], words[1])] if words else CONTRACTS:
         found = rests_on(modules, file, name)
         if words:
             print_list(modules, found)

@@ -11,7 +11,7 @@ a case fails, 3 where there is no data.
 import argparse
 from collections import Counter
 from pathlib import Path
-from typing import Optional
+from typing import Any, Optional
 
 from ..asking.program import located
 from ..conformance.cases import Case, cases_of
@@ -33,7 +33,7 @@ def data(given: Optional[str]) -> Path:
     raise Stop(f"{given or INSTALLED[0]}: no data; Debian's golang-cel-expr-dev has it", 3)
 
 
-def summary(found: Counter) -> list[str]:
+def summary(found: Counter[Any]) -> list[str]:
     """How many cases are out of the profile by which reason, functions on one line."""
     functions = {why.split()[1]: count for why, count in found.items() if why.startswith("function ")}
     told = Counter({why: count for why, count in found.items() if not why.startswith("function ")})

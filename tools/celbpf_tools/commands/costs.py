@@ -16,7 +16,7 @@ import re
 import statistics
 import subprocess
 import sys
-from typing import Any, Iterator
+from typing import Any, Callable, Iterator
 
 from ..copies import CHECKED, copied, tried, with_driver
 from ..evaluator import grammar, macros, measures
@@ -35,8 +35,11 @@ ROOTS = {
     "request": {"uid": "u1"},
 }
 
+# what is printed below the rows
+MEASURES: dict[str, Callable[..., Any]] = {"median": statistics.median, "greatest": max}
 
-def reviews() -> Iterator:
+
+def reviews() -> Iterator[Any]:
     """The name of each review, as replicas/five."""
     for path in sorted(EXAMPLES.glob("*/*.review.json")):
         yield f"{path.parent.name}/{path.name.removesuffix('.review.json')}"
@@ -114,7 +117,7 @@ def print_rows() -> None:
     for number, text in enumerate(texts):
         ratios.append([one / other for one, other in zip(runs[number], defined_row(text))])
         print("{:7.1f} {:7.2f} {:7.1f}".format(*ratios[-1]), text)
-    for word, of in (("median", statistics.median), ("greatest", max)):
+    for word, of in MEASURES.items():
         print("{:7.1f} {:7.2f} {:7.1f}".format(*map(of, zip(*ratios))), word)
     print(f"counted for {len(texts)} expressions")
 
@@ -132,7 +135,7 @@ def main() -> Any:
         work, spent = definitions[name]
         ratios.append((steps / work, charge / spent))
         print(form.format(name, steps, work, f"{steps / work:.1f}", charge, spent, f"{charge / spent:.2f}"))
-    for word, of in (("median", statistics.median), ("greatest", max)):
+    for word, of in MEASURES.items():
         steps, charge = of(ratio[0] for ratio in ratios), of(ratio[1] for ratio in ratios)
         print(form.format(word, "", "", f"{steps:.1f}", "", "", f"{charge:.2f}"))
     print(f"counted for {len(runs)} reviews")

@@ -7,11 +7,12 @@ not, for a type may share the name of a case with another.
 """
 
 from collections import defaultdict
+from typing import Any
 
 from ..definitions import modules
 
 
-def places(files: list) -> dict:
+def places(files: list[Any]) -> dict[str, Any]:
     """Where each capitalised name is defined, one place a file."""
     found = defaultdict(list)
     for module in files:

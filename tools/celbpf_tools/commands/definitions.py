@@ -10,7 +10,7 @@ looks for files without a head line.
 import re
 import sys
 from pathlib import Path
-from typing import Iterator
+from typing import Any, Iterator
 
 from ..definitions import CRATES
 from ..entry import Stop, usage_of
@@ -29,13 +29,13 @@ def head_of(text: str) -> str:
     return " ".join(words).split(". ")[0].removesuffix(".")
 
 
-def crates_in_order() -> list:
+def crates_in_order() -> list[Any]:
     """The crates with definitions, the lower ones first."""
     names = [line.split(":")[0] for line in (ROOT / "crates.txt").read_text().splitlines() if line]
     return [name for name in names if (CRATES / name / "specs").is_dir()]
 
 
-def files_of(folder: Path) -> Iterator[tuple]:
+def files_of(folder: Path) -> Iterator[tuple[Any, ...]]:
     """The names of the files of definitions in a folder `specs`, with their heads; its root file only lists modules."""
     for path in sorted(folder.rglob("*.antt")):
         name = str(path.relative_to(folder)).removesuffix(".antt")
@@ -58,11 +58,11 @@ def places(crates: Path, name: str) -> Iterator[str]:
                 yield f"{path.relative_to(crates)}:{place}: {head_of(text)}"
 
 
-def without_head(crates: list) -> list:
+def without_head(crates: list[Any]) -> list[Any]:
     return [f"{crate}/specs/{name}.antt" for crate in crates for name, head in files_of(CRATES / crate / "specs") if not head]
 
 
-def check(crates: list) -> int:
+def check(crates: list[Any]) -> int:
     lacking = without_head(crates)
     if lacking:
         print(*lacking, sep="\n")

@@ -55,7 +55,7 @@ def line_of(document: Any) -> Any:
     return json.dumps(document, separators=(",", ":")).encode() + b"\n"
 
 
-def reviews(count: int, seed: Any) -> Iterator:
+def reviews(count: int, seed: Any) -> Iterator[Any]:
     """The example's reviews in turn, each with a uid of its own and with replicas from the seed."""
     drawn = random.Random(seed)
     documents = [json.loads(file.read_text()) for file in sorted(EXAMPLE.glob("*.review.json"))]
@@ -82,6 +82,7 @@ def one_by_one(gatekeeper: Any, lines: Any, words: Any = POLICY) -> Any:
     """The answers, the seconds of each, and the memory at the end and what of it grew since the first thousand."""
     answers, seconds, first = [], [], 0
     started = [gatekeeper, *words]
+    process: Any
     with subprocess.Popen(started, stdin=subprocess.PIPE, stdout=subprocess.PIPE, stderr=subprocess.DEVNULL) as process:
         for number, line in enumerate(lines):
             began = time.perf_counter()
@@ -106,8 +107,8 @@ def at_once(gatekeeper: Any, lines: Any, parts: Any, words: Any = POLICY) -> Any
         running = []
         for name in names:
             with name.open() as file:
-                outputs = {"stdout": subprocess.DEVNULL, "stderr": subprocess.DEVNULL}
-                running.append(subprocess.Popen([gatekeeper, *words], stdin=file, **outputs))
+                null = subprocess.DEVNULL
+                running.append(subprocess.Popen([gatekeeper, *words], stdin=file, stdout=null, stderr=null))
         if any(process.wait() for process in running):
             sys.exit("gatekeeper-load: a gatekeeper did not end with status 0")
         return len(lines) / (time.perf_counter() - began)
@@ -123,7 +124,7 @@ def alone(program: Any, line: Any) -> Any:
         return done.stdout, time.perf_counter() - began
 
 
-def planted(folder: Path) -> tuple:
+def planted(folder: Path) -> tuple[Any, ...]:
     """Writes the state of a cluster, and those of its policies that match; the words that name each."""
     items, (*policies, params) = states.state(), states.matching()
     whole, beside = folder / "state.json", folder / "params.json"

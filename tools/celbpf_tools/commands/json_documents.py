@@ -37,7 +37,7 @@ def words() -> argparse.Namespace:
     return parser.parse_args()
 
 
-def due(given: Answer) -> list:
+def due(given: Answer) -> list[Any]:
     """What a session and `review` end with."""
     if given.refusal:
         return [(3, "", f"celbpf: {given.refusal}\n")] * 2
@@ -45,7 +45,7 @@ def due(given: Answer) -> list:
     return [(0, given.lines(), ""), (0 if '"allowed":true' in response else 1, response, "")]
 
 
-def found(program: Program, case: Case) -> list:
+def found(program: Program, case: Case) -> list[Any]:
     """The same of the program."""
     named = []
     for name in ("review", "namespace", "params"):
@@ -73,7 +73,8 @@ def tell(program: Program, case: Case) -> None:
 
 def compare(program: Program, seed: int, count: int) -> Any:
     """How many cases there were of each answer, and how many differ."""
-    answers, documents, differing = Counter(), 0, 0
+    answers: Counter[str] = Counter()
+    documents = differing = 0
     for case in cases(Numbers(seed)):
         if documents >= count:
             break

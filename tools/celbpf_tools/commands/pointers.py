@@ -9,7 +9,7 @@ words of the crate's sources; and each path in a page with the files that there 
 
 import re
 from pathlib import Path
-from typing import Iterator, Optional
+from typing import Any, Iterator, Optional
 
 from ..definitions import CRATES
 from ..home import ROOT
@@ -25,7 +25,7 @@ NAMED = re.compile(r"((?:`\w+`(?:, | and )?)+) \(`([^`]+\.(?:antt|rt))`")
 NAME = re.compile(r"(?=\w*(?:[A-Z]|_))(?![A-Z]\d$)[A-Za-z_]\w*(?:::\w+)*")
 
 
-def words_of(path: Path) -> set:
+def words_of(path: Path) -> set[Any]:
     return set(WORD.findall(path.read_text()))
 
 
@@ -38,7 +38,7 @@ def file_of(span: str, crates: Path) -> Optional[Path]:
     return path if found[4] or path.is_dir() else path.with_suffix(".antt")
 
 
-def of_names(lines: list, crates: Path) -> Iterator[str]:
+def of_names(lines: list[Any], crates: Path) -> Iterator[str]:
     """Names before a file, as `A`, `B` (`File.antt`): those that the file has not, which is of any crate."""
     for names, file in NAMED.findall(" ".join(line.strip() for line in lines)):
         paths = [crates / file] if "/" in file else list(crates.glob(f"*/specs/**/{file}"))
@@ -46,14 +46,14 @@ def of_names(lines: list, crates: Path) -> Iterator[str]:
         yield from (f"{name} is not in {file}" for name in SPAN.findall(names) if name not in found)
 
 
-def of_types(lines: list, crates: Path) -> Iterator[str]:
+def of_types(lines: list[Any], crates: Path) -> Iterator[str]:
     """Types, as `crate::Type`, that no source of the crate has."""
     for crate, name in (found for line in lines for found in TYPE.findall(line)):
         if not any(name in words_of(path) for path in (crates / crate / "src").rglob("*.rt")):
             yield f"{name} is not in {crate}"
 
 
-def of_readme(lines: list, crate: Path) -> Iterator[str]:
+def of_readme(lines: list[Any], crate: Path) -> Iterator[str]:
     """Names of a README that no source of its crate has."""
     files = [path for path in crate.rglob("*") if path.suffix in (".rt", ".antt")]
     found = set().union(*(set(WORD.findall(path.read_text())) | {path.stem} for path in files))
@@ -62,7 +62,7 @@ def of_readme(lines: list, crate: Path) -> Iterator[str]:
         yield from (f"{word} is in no source" for word in span.split("::") if word not in found)
 
 
-def of_paths(lines: list, crates: Path) -> Iterator[str]:
+def of_paths(lines: list[Any], crates: Path) -> Iterator[str]:
     """Paths of a page at which there is nothing."""
     for span in (span for line in lines for span in SPAN.findall(line)):
         path = file_of(span, crates)

@@ -19,7 +19,7 @@ import tempfile
 import time
 from contextlib import suppress
 from pathlib import Path
-from typing import NoReturn, Optional
+from typing import Any, NoReturn, Optional
 
 from ..entry import Stop, usage_of
 from ..home import DATA, ROOT, TOOLS, unproved
@@ -47,7 +47,7 @@ class Builder:
         self.crate = ROOT / "crates" / name
         self.program = unproved(name)
         self.record = self.program.parent / "built"
-        self.running: tuple = ()
+        self.running: tuple[Any, ...] = ()
         self.began = time.monotonic()
 
     def say(self, line: str) -> None:
@@ -56,7 +56,7 @@ class Builder:
     def taken(self) -> str:
         return f"{time.monotonic() - self.began:.0f} seconds"
 
-    def waited(self, *running: subprocess.Popen) -> int:
+    def waited(self, *running: subprocess.Popen[bytes]) -> int:
         """Waits for processes, which can be stopped meanwhile, and says now and then that it goes on; the status of the
         first that failed, or 0."""
         self.running = running
@@ -64,31 +64,31 @@ class Builder:
         self.running = ()
         return next(filter(None, statuses), 0)
 
-    def status_of(self, running: subprocess.Popen) -> int:
+    def status_of(self, running: subprocess.Popen[bytes]) -> int:
         while True:
             try:
                 return running.wait(PATIENCE)
             except subprocess.TimeoutExpired:
                 self.say(f"still at it after {self.taken()}")
 
-    def ran(self, commands: list, folder: Path, more: dict) -> tuple:
+    def ran(self, commands: list[Any], folder: Path, more: dict[str, Any]) -> tuple[Any, ...]:
         """The status of commands that run at once, and what they said."""
         with tempfile.TemporaryFile() as said:
-            how = {"stdin": subprocess.DEVNULL, "stdout": said, "stderr": said, "start_new_session": True}
-            where = {"cwd": folder, "env": {**os.environ, **more}}
+            how: dict[str, Any] = {"stdin": subprocess.DEVNULL, "stdout": said, "stderr": said, "start_new_session": True}
+            where: dict[str, Any] = {"cwd": folder, "env": {**os.environ, **more}}
             started = [subprocess.Popen([str(word) for word in words], **where, **how) for words in commands]
             status = self.waited(*started)
             said.seek(0)
             return status, said.read().decode(errors="replace")
 
-    def stop(self, *_) -> NoReturn:
+    def stop(self, *_: object) -> NoReturn:
         """Ends what runs, when this is told to stop."""
         for one in self.running:
             with suppress(ProcessLookupError):
                 os.killpg(one.pid, signal.SIGTERM)
         raise Stop("stopped; the next run builds it", STOPPED)
 
-    def made_from(self) -> tuple:
+    def made_from(self) -> tuple[Any, ...]:
         """The digest of what is compiled, and the toolchain."""
         asked = subprocess.run([TOOLS / "sources", self.name], capture_output=True, text=True)
         _, digest, toolchain = asked.stdout.strip().split(" ", 2)
@@ -136,7 +136,7 @@ class Builder:
                 fcntl.flock(lock, fcntl.LOCK_EX)
             self.build()
 
-    def run_anew(self, words: list, why: str) -> int:
+    def run_anew(self, words: list[Any], why: str) -> int:
         """Runs the sources by `rt try`, since the toolchain gives no program; the status."""
         if OF_SOURCE.search(why):
             print(why, end="", file=sys.stderr)
@@ -149,7 +149,7 @@ class Builder:
         return status
 
 
-def answered(builder: Builder, words: Optional[list]) -> Optional[int]:
+def answered(builder: Builder, words: Optional[list[Any]]) -> Optional[int]:
     """Builds the program, and runs it on the words if there are any."""
     try:
         builder.build_alone()

@@ -1,84 +1,77 @@
 """Refuses each allocation of some work in turn: each run is to answer as with ample memory, or that memory ran out.
 
-usage: tools/refused-allocations [NAME..]
+usage: tools/refused-allocations [--quick|--programs FOLDER] [NAME..]
 
-What is run stands in tools/data/refused-allocations, one driver for each name: the tokens and the tree of a text
-with every production; the expansion, the type and the code of an expression with every construct; the images of a
-short policy and of one with six variables and macros; the code and the listing of two programs with a jump; two
-sessions; the values of a review's five roots; each call of a table of values, in place and not; searches
-and comparisons of lists that differ late, which take no memory; 10,000 pushes onto the newest list, which all
-succeed with the 1,000th allocation refused; a session on the image of the short policy, with its review; the orders
-asm, list and run-image; the order review on these two, which prints no response where memory ran out; and the
-gatekeeper on two lines, of which one that wants memory says so and the other has its response. Each is built once,
-without proof, and run for each allocation: status 3 says that memory ran out, and that the work done again answered
-as with ample memory; 0 is the answer with ample memory, and 1 any other. About a minute each. It works on a copy.
+A work is run with ample memory, which counts its allocations, and then once for each, which a library refuses that is
+loaded before those of the program. If memory runs out, a command writes one line and no answer, and no file; a session
+answers `? memory` at the line, and goes on as if that line were not there; a gatekeeper does not start, or refuses the
+one line. The programs are the proved ones, those that are compiled without a proof, or those of FOLDER.
+
+Other works are calls of the libraries, by a program of tools/data/refused-allocations, which is compiled of a copy
+without a proof: after a call that is refused all values are as before, and the call succeeds if it is made again.
 """
 
-import re
-import sys
+import tempfile
+from collections import Counter
 from pathlib import Path
-from typing import Any
+from typing import Optional
 
-from ..copies import CHECKED, copied, tried, with_driver
-
-VALUES = "serde_json text_kernels value_store value_table"
-SESSIONS = "loader debugger serde_json value_store value_table"
-# for each name more turns than its work has allocations, and the crates under its driver
-WORK = {
-    "reads": (400, "cel_tokens cel_reader"),
-    "expressions": (400, "cel_reader cel_macros cel_types"),
-    "code": (500, "cel_reader cel_macros cel_types codegen"),
-    "compile": (800, "policy_glue loader"),
-    "lists": (400, "assembler disassembler"),
-    "sessions": (400, SESSIONS),
-    "steps": (400, SESSIONS),
-    "values": (400, VALUES),
-    "calls": (400, VALUES),
-    "searches": (400, VALUES),
-    "pushes": (1000, VALUES),
-    "compiled": (1200, "loader debugger policy_glue review_runner value_table"),
-    "orders": (400, "debugger review_runner"),
-    "review": (600, "debugger review_runner"),
-    "gatekeeper": (800, "host streams gatekeeper_runner"),
-}
-RUN = re.compile(r"^case=(\d+) run=ended status=([03]) ", re.MULTILINE)
-AS_IT_IS_TO_BE = re.compile(r"^allocations: |status=[03] ")
+from ..asking.program import tested
+from ..copies import copied
+from ..entry import parser_of
+from ..refusing.driver import CALLS, made
+from ..refusing.runs import Runs
+from ..refusing.works import Answer, Calls, Work, of_programs
 
 
-def turns_folder(copy: Any, count: int) -> Any:
-    """A folder with a case for each turn, which says its number."""
-    folder = Path(copy, f"turns{count}")
-    folder.mkdir(exist_ok=True)
-    for turn in range(1, count + 1):
-        Path(folder, str(turn)).write_text(f"{turn}\n")
-    return folder
+def refuse(name: str, work: Work, runs: Runs) -> bool:
+    """Refuses each allocation of a work; whether each run answered as it is to."""
+    work.begin(runs)
+    count = runs.made()
+    answers = [work.answer(runs, refused) for refused in range(1, count + 1)]
+    said = Counter(answers)
+    print(f"{name}: {count} allocations, {said[Answer.MEMORY]} answers that memory ran out", flush=True)
+    if said[Answer.WRONG]:
+        wrong = [str(refused) for refused, answer in enumerate(answers, 1) if answer is Answer.WRONG]
+        print(f"    wrong answers: {said[Answer.WRONG]}, with these refused: {' '.join(wrong[:10])}", flush=True)
+    return 0 < count and not said[Answer.WRONG]
 
 
-def refuse(copy: Any, name: str) -> Any:
-    """Runs the work of a name for each allocation; whether each run answered as it is to."""
-    count, crates = WORK[name]
-    driver = with_driver(copy, "refused-allocations", name, crates)
-    # of the run's 100,000th allocation all but the work's own ones before it are made first
-    words = ["--fail-alloc", "100000", "--cases", str(turns_folder(copy, count))]
-    ran = tried(driver, *CHECKED, *words)
-    said = ran.stdout + ran.stderr
-    refused = [int(turn) for turn, status in RUN.findall(said) if status == "3"]
-    ample = [turn for turn, status in RUN.findall(said) if status == "0"]
-    # the work has fewer allocations than there are turns, so the last turn refuses none
-    if refused and max(refused) < count and len(refused) + len(ample) == count:
-        print(f"{name}: each of {max(refused)} allocations refused, {len(refused)} answers that memory ran out")
-        return True
-    print(f"{name}:", *(line for line in said.splitlines() if not AS_IT_IS_TO_BE.search(line)), sep="\n")
-    return False
-
-
-def main() -> Any:
-    names = sys.argv[1:] or WORK
-    if unknown := [name for name in names if name not in WORK]:
-        sys.exit(f"refused-allocations: there is no {unknown[0]}, only {', '.join(WORK)}")
+def of_calls(names: list[str], folder: Path) -> dict[str, Work]:
+    """The works that are calls of the libraries, if some of them are asked for."""
+    if not set(names) & set(CALLS):
+        return {}
     with copied("out") as copy:
-        passed = [refuse(copy, name) for name in names]
+        program = made(copy, folder)
+    return {name: Calls([program], str(place).encode()) for place, name in enumerate(CALLS)}
+
+
+def programs_of(quick: bool, folder: Optional[str]) -> tuple[Path, Path]:
+    """The two programs."""
+    if folder:
+        return Path(folder, "celbpf").resolve(), Path(folder, "gatekeeper").resolve()
+    given = "--quick" if quick else None
+    return tested(given, "celbpf"), tested(given, "gatekeeper")
+
+
+def main() -> int:
+    parser = parser_of(__doc__)
+    parser.add_argument("--quick", action="store_true", help="programs that are compiled without a proof")
+    parser.add_argument("--programs", metavar="FOLDER", help="a folder with celbpf and gatekeeper")
+    parser.add_argument("names", metavar="NAME", nargs="*", help="a work; all if none is given")
+    given = parser.parse_args()
+    with tempfile.TemporaryDirectory() as name:
+        folder = Path(name).resolve()
+        runs = Runs(folder)
+        works = of_programs(runs, *programs_of(given.quick, given.programs))
+        known = [*works, *CALLS]
+        if unknown := [one for one in given.names if one not in known]:
+            parser.error(f"there is no {unknown[0]}, only {', '.join(known)}")
+        names = given.names or known
+        works.update(of_calls(names, folder))
+        # all are run, also after one that fails
+        passed = [refuse(one, works[one], runs) for one in names]
     if not all(passed):
         return 1
-    print("each run answered as with ample memory, or that memory ran out")
+    print(f"in {len(passed)} works each run answered as with ample memory, or that memory ran out")
     return 0

@@ -15,6 +15,7 @@ import shutil
 import subprocess
 import tempfile
 from pathlib import Path
+from typing import Any
 
 from ..asking.program import located
 from ..dap.adapter import Adapter
@@ -46,7 +47,7 @@ def built_client(folder: Path) -> Path:
 
 def make_images(program: Path, folder: Path) -> None:
     """The images that scripts name, in the folder."""
-    orders = [["asm", text, folder / f"{text.stem}.img"] for text in sorted(SCRIPTS.glob("*.asm"))]
+    orders: list[list[Any]] = [["asm", text, folder / f"{text.stem}.img"] for text in sorted(SCRIPTS.glob("*.asm"))]
     orders.append(["compile", EXAMPLES / "replicas" / "policy.json", folder / "replicas.img"])
     for words in orders:
         made = subprocess.run([program, *words], capture_output=True, text=True, check=False)
@@ -57,7 +58,7 @@ def make_images(program: Path, folder: Path) -> None:
 def passes(client: Path, script: Path, program: Path, folder: Path) -> bool:
     """Whether a script finds what it says; if not, the client prints where."""
     environment = {**os.environ, "EXAMPLES": str(EXAMPLES), "FOLDER": str(folder)}
-    words = [client, script, TOOLS / "dap", "--program", program]
+    words: list[Any] = [client, script, TOOLS / "dap", "--program", program]
     try:
         return not subprocess.run(words, env=environment, timeout=PATIENCE, check=False).returncode
     except subprocess.TimeoutExpired:

@@ -17,9 +17,10 @@ import subprocess
 import sys
 import tempfile
 from pathlib import Path
-from typing import Iterator
+from typing import Any, Iterator
 
 from ..asking.program import Program, located
+from ..asking.translating import Translating, gatekeeper_of
 from ..browsing.browser import Browser, Page
 from ..browsing.browser import located as browser
 from ..browsing.hostile import POLICY, REVIEW, hostile_faults
@@ -57,24 +58,24 @@ class Example:
         self.beside = {kind: review.parent / f"{kind}.json" for kind in ("namespace", "params")}
         self.beside = {kind: path for kind, path in self.beside.items() if path.exists()}
 
-    def documents(self) -> list:
+    def documents(self) -> list[Any]:
         """The words that name the documents."""
         beside = [word for kind, path in self.beside.items() for word in (f"--{kind}", path)]
         return ["--review", self.review, *beside]
 
 
-def examples() -> list:
+def examples() -> list[Any]:
     return [Example(path) for path in sorted(EXAMPLES.glob("*/*.review.json"))]
 
 
-def map_checked(policy: Path, program: Program) -> list:
+def map_checked(policy: Path, program: Program) -> list[Any]:
     """What is wrong with the map of a policy."""
     document = json.loads(policy.read_text())
     faults = map_faults(document, program, parts_of(document, program))
     return [f"{policy.parent.name}: {fault}" for fault in faults]
 
 
-def run_checked(example: Example, program: Program) -> tuple:
+def run_checked(example: Example, program: Program) -> tuple[Any, ...]:
     """How many values of a run are compared with the evaluator's, and which differ."""
     program.documents = [str(word) for word in example.documents()]
     slots, shown = shown_run(Decision(json.loads(example.policy.read_text()), ""), program)
@@ -84,7 +85,7 @@ def run_checked(example: Example, program: Program) -> tuple:
     return sum(map(count, shown.found.values())), [f"{example.name}: {fault}" for fault in found]
 
 
-def written(page: Path, policy: Path, documents: list, path: Path) -> None:
+def written(page: Path, policy: Path, documents: list[Any], path: Path) -> None:
     """Writes a page by tools/why."""
     review, *beside = documents[1:]
     command = [TOOLS / "why", policy, review, *beside, "--html", page, "--program", path]
@@ -97,7 +98,7 @@ def page_alone(example: Example, program: Program) -> str:
     """The page of a denial without what to change, which takes most of the time of tools/why."""
     verdict = program.verdict(str(example.policy))
     places = [int(line.split()[1]) for line in verdict if line.startswith("validation ")]
-    denials = {place: ("", "") for place in places}
+    denials: dict[Any, Any] = {place: ("", "") for place in places}
     outcome = OUTCOMES[verdict[0].split()[1]]
     document = json.loads(example.policy.read_text())
     return page(Decision(document, outcome, [str(example.policy), example.name], "", denials), program)
@@ -131,8 +132,8 @@ class Pages:
         self.folder = Path(folder)
         self.given = given
         self.opened = self.positions = 0
-        self.moved: set = set()
-        self.faults: list = []
+        self.moved: set[Any] = set()
+        self.faults: list[Any] = []
 
     def take(self, example: Example) -> None:
         """Writes and opens the page of a denial."""
@@ -151,13 +152,17 @@ class Pages:
         if self.given.pictures and example.name in PICTURED:
             pictures(self.page, example.name, Path(self.given.pictures))
 
-    def move(self, example: Example) -> list:
+    def move(self, example: Example) -> list[Any]:
         """Moves the slider to each of its positions, and presses keys and buttons."""
-        program = Program(self.path, str(self.folder), example.documents())
+        program = self.translating(example.documents())
         image = program.kept_image(str(example.policy))
         number, faults = positions_faults(self.page, program, image)
         self.positions += number
         return [*faults, *keys_faults(self.page)]
+
+    def translating(self, documents: list[Any]) -> Program:
+        """The programs, as tools/why asks them."""
+        return Translating(self.path, gatekeeper_of(None, str(self.path)), str(self.folder), documents)
 
     def take_hostile(self) -> None:
         """The page of texts that would be markup."""
@@ -166,12 +171,12 @@ class Pages:
         file, policy, review = (self.folder / name for name in ("h.html", "policy.hostile.json", "review.hostile.json"))
         written(file, policy, ["--review", review], self.path)
         faults = [*opened(self.page, file), *hostile_faults(self.page)]
-        program = Program(self.path, str(self.folder), ["--review", review])
+        program = self.translating(["--review", review])
         faults += positions_faults(self.page, program, program.kept_image(str(policy)))[1]
         self.faults += [f"hostile texts: {one}" for one in faults]
 
 
-def maps_checked(path: Path, folder: str) -> list:
+def maps_checked(path: Path, folder: str) -> list[Any]:
     """Compares the maps of all examples, and says how many values there were; what was wrong."""
     program, found, values = Program(path, folder), [], 0
     policies = sorted(EXAMPLES.glob("*/policy.json"))

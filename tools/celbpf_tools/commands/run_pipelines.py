@@ -6,6 +6,7 @@ A step of GitHub Actions, the script of GitLab CI, a hook of pre-commit with the
 run in a folder with policies, manifests and a chart, whose `helm` is a stand-in. Each is green if all is allowed. Each
 that looks at it is red, with the status of the first command that fails and without going on, if a manifest or the chart
 is denied, a policy is refused, a test fails, or `helm` does after its first object. What installs packages is not run.
+If docker or podman can build images here, the container file is built with the package, and its image checks the manifests.
 """
 
 import os
@@ -18,17 +19,20 @@ import tempfile
 from collections.abc import Iterator
 from dataclasses import dataclass
 from pathlib import Path
-from typing import Any, Callable
+from typing import Any, Callable, Optional
 
 from ..asking.program import GIVEN, tested
 from ..documents import one_in
 from ..entry import Stop, usage_of
-from ..home import DATA, ROOT
+from ..home import DATA, ROOT, TOOLS
 
 PIPELINES = ROOT / "examples" / "pipelines"
 POLICY = DATA / "vapctl" / "policies" / "replicas.yaml"
 BASH = ["bash", "-e", "-o", "pipefail"]
 WENT_ON = "it went on"
+# what builds images, and how the one of the container file is called
+BUILDERS = ("docker", "podman")
+IMAGE = "celbpf-vapctl-test"
 OBJECT = "apiVersion: apps/v1\nkind: Deployment\nmetadata: {name: web}\nspec: {replicas: %d}\n"
 TESTS = """policy: replicas.yaml
 cases:
@@ -148,11 +152,54 @@ def why_wrong(part: Part, change: Change, failing: dict[str, int]) -> str:
     return f"it went on\n{ran.stdout}" if wanted and WENT_ON in ran.stdout else ""
 
 
+def ends_well(*words: str) -> bool:
+    return subprocess.run(words, capture_output=True, check=False).returncode == 0
+
+
+def builder() -> Optional[str]:
+    """The command that builds images, if there is one that has, or gets, the image that the container file begins with."""
+    base = next(line.split()[1] for line in (PIPELINES / "Containerfile").read_text().splitlines() if line.startswith("FROM "))
+    for name in filter(shutil.which, BUILDERS):
+        if ends_well(name, "info") and (ends_well(name, "image", "inspect", base) or ends_well(name, "pull", base)):
+            return name
+    return None
+
+
+def container(command: str, programs: Path, top: Path) -> str:
+    """What is wrong in the image of the container file; empty if nothing is."""
+    repository(top)
+    words: list[list[Any]] = [
+        [TOOLS / "package", "--programs", programs, "--no-library", "--to", top],
+        [command, "build", "--file", PIPELINES / "Containerfile", "--tag", IMAGE, top],
+        [command, "run", "--rm", "--volume", f"{top}:/work:ro", IMAGE, "check", "--policy", "policies", "manifests"],
+    ]
+    for status in (GREEN, DENIED):
+        for one in words:
+            ran = subprocess.run(one, capture_output=True, text=True, check=False)
+            if ran.returncode != (status if one is words[-1] else GREEN):
+                return f"{' '.join(map(str, one))}: status {ran.returncode}\n{ran.stdout}{ran.stderr}"
+        words = words[-1:]
+        replace(top / "manifests" / "web.yaml", OBJECT % 4)
+    return ""
+
+
+def run_container(programs: Path) -> int:
+    """Builds the container file, if that is possible here; how many runs are not as they are to be."""
+    command = builder()
+    if command is None:
+        print(f"the container file: left out, since none of {', '.join(BUILDERS)} can build here")
+        return 0
+    with tempfile.TemporaryDirectory() as folder:
+        found = container(command, programs, Path(folder) / "repository")
+    print(f"the container file: {found or 'is built, and its image checks manifests'}", flush=True)
+    return 1 if found else 0
+
+
 def main() -> int:
     given = sys.argv[1:]
     if given[:1] == ["--help"] or len(given) > 2:
         raise Stop(f"usage: {usage_of(__doc__)}", 2)
-    paths = given if len(given) == 2 else ["--quick" if given == ["--quick"] else None] * 2
+    paths: list[Optional[str]] = [*given] if len(given) == 2 else ["--quick" if given == ["--quick"] else None] * 2
     with tempfile.TemporaryDirectory() as folder:
         # the gatekeeper that is asked is the one beside the program
         for name, path in zip(("celbpf", "gatekeeper"), paths):
@@ -165,5 +212,6 @@ def main() -> int:
                 if found := why_wrong(part, change, failing):
                     wrong += 1
                     print(f"{part.title}: {title}: {found}", flush=True)
+        wrong_images = run_container(Path(folder))
     print(f"{runs - wrong} of {runs} runs of pipelines are as they are to be")
-    return 1 if wrong else 0
+    return 1 if wrong or wrong_images else 0

@@ -6,9 +6,8 @@ The tables are the files of tools/data/run-scripts, worked by hand. A line `poli
 specification, `review REQUEST` review.json of a request beside a uid, and `file NAME TEXT` any other; in TEXT the
 two characters \\n are a line feed. A line `$ WORDS` runs a script with `--program PROGRAM`, and `% TEXT` has bash run
 a text in which $TOOLS is the folder of the scripts and $PROGRAM the program, which scripts run there by themselves too.
-Below is what it prints on both outputs, up to a line `[STATUS]`. A line `adapts EXPRESSION` is a pair of
-tools/adapt: below it are the variables that it adds, a line `= EXPRESSION`, and lines `? OBJECT VALUE` with what that
-is over an object. A line `needs MODULE` ends a table where Python has no such module.
+Below is what it prints on both outputs, up to a line `[STATUS]`. A line `needs MODULE` ends a table where Python has no
+such module.
 """
 
 import importlib.util
@@ -18,12 +17,10 @@ import subprocess
 import sys
 import tempfile
 from pathlib import Path
-from typing import Any, Iterator, Optional
+from typing import Any, Optional
 
-from ..adapting.report import Variables
-from ..adapting.rewriter import Rewriter
-from ..asking.policies import asking, whole
-from ..asking.program import GIVEN, Program, tested
+from ..asking.policies import whole
+from ..asking.program import GIVEN, tested
 from ..entry import Stop
 from ..home import DATA, TOOLS
 
@@ -31,7 +28,7 @@ TABLES = DATA / "run-scripts"
 REVIEW = {"apiVersion": "admission.k8s.io/v1", "kind": "AdmissionReview"}
 
 
-def made(line: str) -> Optional[tuple]:
+def made(line: str) -> Optional[tuple[Any, ...]]:
     """The name and the text of the file that a line makes, or None."""
     word, _, rest = line.partition(" ")
     if word == "policy":
@@ -48,36 +45,14 @@ def ran(line: str, program: Path, folder: str) -> str:
     """What a line has printed on both outputs, and its status as a last line."""
     kind, text = line[0], line[2:]
     words = text.split()
-    command = [TOOLS / words[0], *words[1:], "--program", program] if kind == "$" else ["bash", "-c", text]
+    command: list[Any] = [TOOLS / words[0], *words[1:], "--program", program] if kind == "$" else ["bash", "-c", text]
     path = {**os.environ, "TOOLS": str(TOOLS), "PROGRAM": str(program), GIVEN: str(program)}
-    outputs = {"stdout": subprocess.PIPE, "stderr": subprocess.STDOUT, "stdin": subprocess.DEVNULL}
-    ended = subprocess.run(command, cwd=folder, env=path, text=True, **outputs)
+    ended = subprocess.run(command, cwd=folder, env=path, text=True, stdin=subprocess.DEVNULL, stdout=subprocess.PIPE,
+                           stderr=subprocess.STDOUT, check=False)
     return f"{ended.stdout}[{ended.returncode}]\n"
 
 
-def pair(text: str, lines: Any, program: Any, folder: Any) -> Iterator:
-    """For a pair and each of its values what differs, or nothing."""
-    variables = Variables(set())
-    found, scope = Rewriter(text, variables).rewritten(), variables.added
-    while not lines[0].startswith("= "):
-        name, _, expression = lines.pop(0).partition(": ")
-        is_there = {"name": name, "expression": expression} in scope
-        yield "" if is_there else f"{text}\nwanted: the variable {name}: {expression}\nfound:  {scope}"
-    wanted = lines.pop(0).removeprefix("= ")
-    yield "" if found == wanted else f"{text}\nwanted: {wanted}\nfound:  {found}"
-    asks = Program(program, folder)
-    image = asks.asked(asking(scope, found)) if lines and lines[0].startswith("? ") else ()
-    while lines and lines[0].startswith("? "):
-        given, end = json.JSONDecoder().raw_decode(lines[0], 2)
-        value = lines.pop(0)[end + 1 :]
-        review = Path(folder, "pair.json")
-        review.write_text(json.dumps({**REVIEW, "request": {"uid": "u", "object": given}}))
-        asks.documents = ["--review", str(review)]
-        said = asks.shown(*image)
-        yield "" if said == value else f"{found}\nover {json.dumps(given)}\nwanted: {value}\nfound:  {said}"
-
-
-def compared(name: str, lines: list, program: Path, folder: str) -> tuple:
+def compared(name: str, lines: list[Any], program: Path, folder: str) -> tuple[Any, ...]:
     """The runs of a table, and how many of them differ."""
     runs = differing = 0
     while lines:
@@ -88,13 +63,6 @@ def compared(name: str, lines: list, program: Path, folder: str) -> tuple:
             path.write_text(file[1])
         elif line.startswith("needs ") and not importlib.util.find_spec(line.split()[1]):
             break
-        elif line.startswith("adapts "):
-            found = list(pair(line.removeprefix("adapts "), lines, program, folder))
-            runs += len(found)
-            wrong = [one for one in found if one]
-            differing += len(wrong)
-            for one in wrong:
-                print(f"{name}: {one}", flush=True)
         elif line.startswith(("$ ", "% ")):
             wanted = ""
             while not wanted.endswith("]\n") or not wanted.splitlines()[-1].startswith("["):
@@ -116,7 +84,11 @@ def tables_of(folder: Path, chosen: list[str]) -> list[Path]:
 
 
 def main() -> int:
-    program = tested(sys.argv[1] if len(sys.argv) > 1 else None)
+    given = sys.argv[1] if len(sys.argv) > 1 else None
+    program = tested(given)
+    if given in (None, "--quick"):
+        # the scripts ask the gatekeeper beside the program
+        tested(given, "gatekeeper")
     counts = []
     for table in tables_of(TABLES, sys.argv[2:]):
         with tempfile.TemporaryDirectory() as folder:

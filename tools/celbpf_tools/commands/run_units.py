@@ -2,7 +2,7 @@
 
 usage: tools/run-units [--quick] [-v]
 
-If mypy is installed, it checks the types of the packages that pyproject.toml names.
+mypy checks the types and ruff the style, as pyproject.toml says, if they are installed.
 """
 
 import os
@@ -15,14 +15,19 @@ from ..home import ROOT, TOOLS
 
 # where packages are, each with its unit tests
 PACKAGES = {TOOLS: "celbpf_tools", ROOT / "research": "celbpf_research"}
+# what is checked by which command; neither leaves anything in the folder
+CHECKS = {
+    "types": ["mypy", "--config-file", "pyproject.toml", "--cache-dir", os.devnull],
+    "style": ["ruff", "check", "--no-cache", "--quiet", *(str(top / package) for top, package in PACKAGES.items())],
+}
 
 
-def has_types() -> bool:
-    """Whether the types are right, as far as mypy can tell; it leaves nothing in the folder."""
-    if not shutil.which("mypy"):
-        print("types: left out, since there is no mypy")
+def passes(what: str) -> bool:
+    """Whether a check finds nothing, or there is no command for it."""
+    words = CHECKS[what]
+    if not shutil.which(words[0]):
+        print(f"{what}: left out, since there is no {words[0]}")
         return True
-    words = ["mypy", "--config-file", "pyproject.toml", "--cache-dir", os.devnull]
     return subprocess.run(words, cwd=ROOT, check=False).returncode == 0
 
 
@@ -34,7 +39,8 @@ def main() -> int:
     verbosity = 2 if "-v" in sys.argv[1:] else 1
     result = unittest.TextTestRunner(stream=sys.stdout, verbosity=verbosity).run(tests)
     sys.stdout.flush()
-    if not has_types() or not result.wasSuccessful():
+    # each check tells its own findings
+    if not all([*map(passes, CHECKS), result.wasSuccessful()]):
         return 1
     print(f"all {result.testsRun} unit tests passed")
     return 0

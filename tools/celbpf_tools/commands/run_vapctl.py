@@ -26,10 +26,10 @@ from .. import entry
 from ..asking.program import GIVEN, tested
 from ..entry import usage_of
 from ..home import DATA, EXAMPLES, ROOT
-from ..vapctl.commands import WHATS, module_of
-from ..vapctl.main import main as main_of_vapctl
 from ..tests.vapctl_broken import INPUTS, commands
 from ..tests.vapctl_corpus import Corpus, Finding
+from ..vapctl.commands import WHATS, module_of
+from ..vapctl.main import main as main_of_vapctl
 from .run_scripts import compared, tables_of
 
 TABLES = DATA / "run-vapctl"

@@ -18,7 +18,6 @@ differs.
 """
 
 import argparse
-import sys
 import tempfile
 from pathlib import Path
 from typing import Any
@@ -100,7 +99,8 @@ def over_rows() -> Any:
 def main() -> int:
     given = words()
     if given.costs:
-        return print_costs()
+        print_costs()
+        return 0
     if given.write_rows:
         write_rows(Numbers(SEED))
     if given.rows or given.write_rows:

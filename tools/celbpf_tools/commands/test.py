@@ -1,6 +1,6 @@
 """Runs the tests of policies: which requests they allow, which they deny, and by which message.
 
-usage: tools/test [--junit F] [--coverage] [--tap] [--program PROGRAM] [--gatekeeper PROGRAM] FOLDER|FILE..
+usage: tools/test [--junit F] [--coverage] [--tap] [--profile] [--program PROGRAM] [--gatekeeper PROGRAM] FOLDER|FILE..
 
 In a folder it takes the files tests.yaml, tests.yml and tests.json, also in subfolders. A test file has the keys
 `policy` (by default policy.json or .yaml beside it), `namespace`, `params`, `steps`, and `cases`, a list of
@@ -11,7 +11,8 @@ In a folder it takes the files tests.yaml, tests.yml and tests.json, also in sub
     message     the whole message of a denial; contains: a part of it
     refusal     instead of expect: the refusal that is wanted, as N2 or K6 validation 0 Y2
 
-and of policy, namespace, params and steps what differs for it. On a terminal there is a line for each file and for each
+and of policy, namespace, params and steps what differs for it. Policies are read as the gatekeeper reads them, with
+`--profile` as `celbpf` does. On a terminal there is a line for each file and for each
 case that fails, else the Test Anything Protocol. Status 0 says that all passed, 1 that a case failed, 3 that a file
 cannot be read, 2 that the words are wrong.
 """
@@ -21,11 +22,12 @@ import functools
 import sys
 import tempfile
 from pathlib import Path
-from typing import Iterator, Optional
+from typing import Any, Iterator, Optional
 
-from ..asking.program import Program, located, located_gatekeeper
-from ..entry import parser_of
+from ..asking.program import Program, located_gatekeeper
+from ..asking.translating import add_words, program_of
 from ..documents import Unreadable, one_in
+from ..entry import parser_of
 from ..testing import output
 from ..testing.answers import Asked, Programs, failures
 from ..testing.cases import Broken, Case, files_of, read
@@ -39,12 +41,11 @@ def words() -> argparse.Namespace:
     parser.add_argument("--junit", metavar="F", help="also write JUnit's XML")
     parser.add_argument("--coverage", action="store_true", help="report outcomes that no case reaches")
     parser.add_argument("--tap", action="store_true", help="print the Test Anything Protocol, also on a terminal")
-    parser.add_argument("--program", metavar="PROGRAM", help="run this program celbpf instead of the usual one")
-    parser.add_argument("--gatekeeper", metavar="PROGRAM", help="run this program gatekeeper for cases with a cluster")
+    add_words(parser)
     return parser.parse_args()
 
 
-def results_of(places: list, programs: Programs) -> tuple:
+def results_of(places: list[Any], programs: Programs) -> tuple[Any, ...]:
     """The results of all test files, and the files that were read."""
     results, files = [], []
     for place in places:
@@ -58,7 +59,7 @@ def results_of(places: list, programs: Programs) -> tuple:
     return results, files
 
 
-def results_of_file(path: Path, programs: Programs) -> tuple:
+def results_of_file(path: Path, programs: Programs) -> tuple[Any, ...]:
     """The results of a test file's cases, and the file in a list if it was read."""
     try:
         file = read(path)
@@ -74,9 +75,9 @@ def results_of_file(path: Path, programs: Programs) -> tuple:
     return found, [file]
 
 
-def covered(files: list, program: Path, asked: Asked) -> Iterator[str]:
+def covered(files: list[Any], program: Program, asked: Asked) -> Iterator[str]:
     """The lines of the coverage of each policy by the cases of all files."""
-    policies: dict = {}
+    policies: dict[str, Any] = {}
     for case in (case for file in files for case in file.cases):
         try:
             words = asked.words(case)
@@ -86,7 +87,7 @@ def covered(files: list, program: Path, asked: Asked) -> Iterator[str]:
         named = dict(zip(words[::2], words[1::2]))
         path = named.get("--policy")
         if path and path not in policies:
-            policies[path] = coverage_of(case, path, program, asked)
+            policies[path] = coverage_of(case, path, program)
         if path and policies[path]:
             beside = [word for key in ("--namespace", "--params") if key in named for word in (key, named[key])]
             policies[path].add(["--review", review, *beside])
@@ -94,7 +95,7 @@ def covered(files: list, program: Path, asked: Asked) -> Iterator[str]:
         yield from coverage.lines() if coverage else ()
 
 
-def policy_in(path: str) -> Optional[dict]:
+def policy_in(path: str) -> Optional[dict[str, Any]]:
     """What a policy's document says, or `None` if it is not read."""
     try:
         return one_in(Path(path))
@@ -102,30 +103,28 @@ def policy_in(path: str) -> Optional[dict]:
         return None
 
 
-def coverage_of(case: Case, path: str, program: Path, asked: Asked) -> Optional[Coverage]:
+def coverage_of(case: Case, path: str, program: Program) -> Optional[Coverage]:
     """The coverage of a case's policy, with nothing reached; `None` if the policy is refused."""
-    asks = Program(program, str(asked.folder))
     policy = policy_in(path)
-    if policy is None or asks.refusal(path):
+    if policy is None or program.refusal(path):
         return None
     shown = case.beside["policy"]
-    return Coverage(str(case.file.parent / shown if isinstance(shown, str) else case.file), policy, asks)
+    return Coverage(str(case.file.parent / shown if isinstance(shown, str) else case.file), policy, program)
 
 
-def status_of(results: list) -> int:
+def status_of(results: list[Any]) -> int:
     if any(result.is_unread for result in results):
         return 3
     return 1 if any(result.failures for result in results) else 0
 
 
-def outcome(given: argparse.Namespace) -> tuple:
+def outcome(given: argparse.Namespace) -> tuple[Any, ...]:
     """The results of all tests, and the lines about them: the coverage, and how many passed."""
-    celbpf = located(given.program)
     find = functools.partial(located_gatekeeper, given.gatekeeper, given.program)
     with tempfile.TemporaryDirectory() as folder:
-        asked = Asked(Path(folder))
-        results, files = results_of(given.places, Programs(celbpf, find, asked))
-        notes = list(covered(files, celbpf, asked)) if given.coverage else []
+        asked, program = Asked(Path(folder)), program_of(given, folder)
+        results, files = results_of(given.places, Programs(program, find, asked))
+        notes = list(covered(files, program, asked)) if given.coverage else []
     failed = sum(bool(result.failures) for result in results)
     notes.append(f"{len(results) - failed} of {len(results)} passed")
     return results, notes

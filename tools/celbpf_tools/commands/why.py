@@ -1,16 +1,19 @@
 """Says why a policy decides a review as it does.
 
-usage: tools/why POLICY REVIEW [--namespace F] [--params F] [--html F] [--program PROGRAM]
-       tools/why --case NAME TESTS [--html F] [--program PROGRAM]
+usage: tools/why POLICY REVIEW [--namespace F] [--params F] [--html F] [--translated|--profile] [--program PROGRAM]
+       tools/why --case NAME TESTS [--html F] [--translated|--profile] [--program PROGRAM]
 
 `--case` takes policy, review, namespace and params of the case of this name in a test file, as `tools/test` reads it.
 
 The first line is the outcome. Then comes each condition, variable and validation with its value (true, false, the
 error, or its value as JSON) and its expression. For an error the first part of it that is one follows; for what is
 false a tree of its parts with their values, the item of a macro that decides, and what to change; and for each denial
-its message and where that comes from. All is asked of the program, for the parts of an expression by small policies
-with the same variables. The status is that of `celbpf review`; if it refuses the policy or a document, its line is
+its message and where that comes from. All is asked of the programs, for the parts of an expression by small policies
+with the same variables. The status is that of `celbpf review`; if the policy or a document is refused, the refusal is
 printed.
+
+The policy is read as the gatekeeper reads it (docs/LANGUAGE.md), and expressions are shown as their author wrote them;
+`--translated` also shows each as it is compiled. With `--profile` it is read as `celbpf` reads it (docs/CEL.md).
 
 With `--html F` the file F becomes a page that shows the same in a browser: the parts as trees that open, with the value
 of each sub-expression that the run evaluated, the review with the fields that were read, and below them the run of the
@@ -21,14 +24,16 @@ import argparse
 import sys
 import tempfile
 from pathlib import Path
-from typing import Optional
+from typing import Any, Optional
 
 from ..asking import policies
-from ..asking.errors import ERROR, first_error
+from ..asking.errors import first_error
 from ..asking.files import Files
-from ..asking.program import NotAnswered, Program, located
+from ..asking.program import NotAnswered, Program
 from ..asking.reasons import reasons
 from ..asking.texts import escaped, indented, on_one_line
+from ..asking.translating import add_words, program_of
+from ..asking.values import ERROR, Values
 from ..entry import Stop, called, parser_of
 from ..slots.mapping import NotMapped
 from ..testing import cases
@@ -48,14 +53,17 @@ MARK = "the message"
 
 def words() -> argparse.Namespace:
     parser = parser_of(__doc__)
-    parser.add_argument("policy", metavar="POLICY|TESTS", help="a policy, JSON; with --case a test file")
+    parser.add_argument("policy", metavar="POLICY|TESTS", help="a policy, JSON or YAML; with --case a test file")
     parser.add_argument("review", metavar="REVIEW", nargs="?", help="an admission review, JSON")
     parser.add_argument("--namespace", metavar="F", help="the Namespace object of the request")
     parser.add_argument("--params", metavar="F", help="the params object")
     parser.add_argument("--case", metavar="NAME", help="explain this case of a test file")
     parser.add_argument("--html", metavar="F", help="also write a page for a browser")
-    parser.add_argument("--program", metavar="PROGRAM", help="run this program celbpf instead of the usual one")
+    parser.add_argument("--translated", action="store_true", help="also show each expression as it is compiled")
+    add_words(parser)
     given = parser.parse_args()
+    if given.translated and given.profile:
+        parser.error("with --profile nothing is translated")
     if (given.case is None) == (given.review is None):
         parser.error("a policy and a review, or --case and a test file")
     if given.case is not None and (given.namespace or given.params):
@@ -86,90 +94,111 @@ def of_case(given: argparse.Namespace, folder: Path) -> argparse.Namespace:
     return argparse.Namespace(**{**vars(given), **found, "review": review, "tests": given.policy})
 
 
-def documents(given: argparse.Namespace, kept: Files) -> list:
+def documents(given: argparse.Namespace, kept: Files) -> list[Any]:
     """The words that name the documents."""
     named = [("--review", given.review), ("--namespace", given.namespace), ("--params", given.params)]
     return [word for option, file in named if file for word in (option, kept.named(file))]
 
 
-def tell_value(program: Program, part: policies.Part) -> tuple:
-    """Prints the value of a part, with its expression; the value, and what to change in a false one, if they are known."""
-    try:
-        value = program.value(policies.asking(part.scope, part.text))
-    except NotAnswered as why:
-        print(f"{part.title}: not shown, since the program answers {why.line} for it alone")
+class Teller:
+    """The program, the parts of a policy, and the decision that is told, also to a page.
+
+    `translated` has the text of each part's translation, if these are to be shown.
+    """
+
+    def __init__(self, program: Program, policy: dict[Any, Any], decision: Decision):
+        self.program = program
+        self.policy = policy
+        self.decision = decision
+        self.parts = list(policies.parts(policy))
+        self.translated: dict[Any, Any] = {}
+
+    def tell_text(self, part: policies.Part) -> None:
+        """Prints the text of a part, and its translation."""
         print(indented(part.text))
-        return None, None
-    decides = part.kind in ("condition", "validation")
-    no_bool = ", which is no bool and counts as the error" if decides and value not in BOOLS else ""
-    print(f"{part.title}: {on_one_line(value)}{no_bool}")
-    print(indented(part.text))
-    lines = (reasons(program, part.scope, part.text, True) or []) if value == "false" and decides else []
-    for line in lines:
-        print(INDENT + escaped(line))
-    if value == ERROR:
-        print(*(indented(on_one_line(line)) for line in first_error(program, part.scope, part.text)), sep="\n")
-    return value, next((line for line in lines if line.startswith(CHANGE)), None)
+        if translation := self.translated.get((part.kind, part.place)):
+            print(f"    translated: {escaped(translation)}")
+
+    def tell_value(self, part: policies.Part) -> Optional[str]:
+        """Prints the value of a part, with its expression; the value, if it is known."""
+        program = self.program.of(part.kind)
+        try:
+            value = Values(program, part.scope).of(part.text, [])
+        except NotAnswered as why:
+            print(f"{part.title}: not shown, since the program answers {why.line} for it alone")
+            self.tell_text(part)
+            return None
+        decides = part.kind in ("condition", "validation")
+        no_bool = ", which is no bool and counts as the error" if decides and value not in BOOLS else ""
+        print(f"{part.title}: {on_one_line(value)}{no_bool}")
+        self.tell_text(part)
+        lines = (reasons(program, part.scope, part.text, True) or []) if value == "false" and decides else []
+        for line in lines:
+            print(INDENT + escaped(line))
+        if value == ERROR:
+            print(*(indented(on_one_line(line)) for line in first_error(program, part.scope, part.text)), sep="\n")
+        self.decision.values[part.kind, part.place] = value
+        self.decision.hints[part.kind, part.place] = next((line for line in lines if line.startswith(CHANGE)), None)
+        return value
+
+    def tell_conditions(self) -> None:
+        """Prints the conditions; a run ends at the first that is false, and does not evaluate those after it."""
+        is_ended = False
+        for part in self.of_kind("condition"):
+            if is_ended:
+                print(f"{part.title}: not evaluated")
+                self.tell_text(part)
+            else:
+                is_ended = self.tell_value(part) == "false"
+
+    def of_kind(self, kind: str) -> list[Any]:
+        return [part for part in self.parts if part.kind == kind]
+
+    def tell_denial(self, place: int) -> None:
+        """Prints the message of a denial, and the message expression if it has one."""
+        response = self.program.response(policies.alone(self.policy, place))
+        if response["allowed"]:
+            return
+        message, source = response["status"]["message"], origin(self.program, self.policy, place)
+        print(f"denial by validation {place}: {on_one_line(message)}")
+        print(f"    from {source}")
+        for part in self.of_kind("message"):
+            if part.place == place:
+                self.tell_value(part)
+        self.decision.denials[place] = message, source
 
 
-def tell_conditions(program: Program, conditions: list, decision: Decision) -> None:
-    """Prints the conditions; a run ends at the first that is false, and does not evaluate those after it."""
-    is_ended = False
-    for part in conditions:
-        if is_ended:
-            print(f"{part.title}: not evaluated")
-            print(indented(part.text))
-        else:
-            value, decision.hints[part.kind, part.place] = tell_value(program, part)
-            is_ended = value == "false"
-
-
-def origin(program: Program, policy: dict, place: int) -> str:
+def origin(program: Program, policy: dict[Any, Any], place: int) -> str:
     """Where the message of a denial comes from."""
     validation = policy["spec"]["validations"][place]
-    if "messageExpression" in validation:
+    if validation.get("messageExpression") is not None:
         marked = policies.alone(policy, place, message=MARK)
         if program.response(marked)["status"]["message"] != MARK:
             return "its message expression"
     return "its message" if validation.get("message") else "its expression, since it has no message"
 
 
-def tell_denial(program: Program, policy: dict, place: int, parts: list) -> Optional[tuple]:
-    """Prints the message of a denial, and the message expression if it has one; the message, and where it is from."""
-    response = program.response(policies.alone(policy, place))
-    if response["allowed"]:
-        return None
-    message, source = response["status"]["message"], origin(program, policy, place)
-    print(f"denial by validation {place}: {on_one_line(message)}")
-    print(f"    from {source}")
-    for part in parts:
-        if part.kind == "message" and part.place == place:
-            tell_value(program, part)
-    return message, source
-
-
-def tell(program: Program, policy: dict, verdict: list) -> Decision:
+def tell(program: Program, policy: dict[Any, Any], verdict: list[Any], shows_translation: bool = False) -> Decision:
     """Prints all of a verdict, whose lines these are; the same for a page."""
     outcome = OUTCOMES[verdict[0].split()[1]]
     print(outcome)
     decision = Decision(policy, outcome)
-    parts = list(policies.parts(policy))
-    tell_conditions(program, [part for part in parts if part.kind == "condition"], decision)
-    for kind in ("variable", "validation") if outcome in RUNS else ():
-        for part in parts:
-            if part.kind == kind:
-                _, decision.hints[kind, part.place] = tell_value(program, part)
+    teller = Teller(program, policy, decision)
+    if shows_translation:
+        teller.translated = {(part.kind, part.place): part.text for part in policies.parts(program.document(policy))}
+    teller.tell_conditions()
     if outcome not in RUNS:
         print("variables and validations are not asked")
         return decision
+    for part in (*teller.of_kind("variable"), *teller.of_kind("validation")):
+        teller.tell_value(part)
     for line in verdict:
-        place = int(line.split()[1])
-        if line.startswith("validation ") and (told := tell_denial(program, policy, place, parts)):
-            decision.denials[place] = told
+        if line.startswith("validation "):
+            teller.tell_denial(int(line.split()[1]))
     return decision
 
 
-def files(given: argparse.Namespace) -> list:
+def files(given: argparse.Namespace) -> list[Any]:
     """The files as a page names them; for a case its test file, since those of its documents are removed."""
     if given.case is not None:
         return [f"case {given.case} of {given.tests}"]
@@ -193,11 +222,11 @@ def told(given: argparse.Namespace) -> int:
     with tempfile.TemporaryDirectory() as folder, tempfile.TemporaryDirectory() as documents_folder:
         if given.case is not None:
             given = of_case(given, Path(documents_folder))
-        kept = Files(documents_folder)
-        policy, beside = kept.named(given.policy), documents(given, kept)
-        program = Program(located(given.program), folder, beside)
+        asked = Asked(Path(documents_folder))
+        policy, beside = asked.file(str(given.policy), Path()), documents(given, asked.files)
+        program = program_of(given, folder, beside)
         response = program.response(policy)
-        decision = tell(program, policies.read(policy), program.verdict(policy))
+        decision = tell(program, policies.read(policy), program.verdict(policy), given.translated)
         decision.message = response.get("status", {}).get("message", "")
         if given.html:
             write_page(given, program, decision)
@@ -209,8 +238,8 @@ def main() -> int:
         return told(words())
     except NotAnswered as why:
         print(f"celbpf: {why.line}", file=sys.stderr)
-        if why.line.startswith("N1 "):
+        if why.line.startswith(("N1 ", "K", "G")):
             print(f"why: {called('place')} says where the policy is refused", file=sys.stderr)
-        if why.line == "N1 K1":
-            print(f"why: if it is YAML, {called('adapt')} writes it as JSON", file=sys.stderr)
+        if why.line in ("N1 K1", "K1"):
+            print("why: if it is YAML, `vapctl why` reads it", file=sys.stderr)
         return why.status

@@ -56,7 +56,7 @@ class Run:
     def __init__(self, given: argparse.Namespace):
         self.given = given
         self.clauses = Clauses()
-        self.refusals: Counter = Counter()
+        self.refusals: Counter[Any] = Counter()
         self.beside = Beside()
         self.compared = Compared(("--profile",) if given.profile_only else ())
         self.most = given.count or (5_000 if given.profile_only else 20_000)
@@ -77,7 +77,7 @@ class Run:
             return None
         return self.compared.difference(self.given.gatekeeper, case, wanted)
 
-    def lines(self) -> list:
+    def lines(self) -> list[Any]:
         """What came of the cases."""
         shown = [self.beside.line()]
         if self.refusals:
@@ -104,7 +104,7 @@ def clauses_shown(clauses: Clauses) -> int:
     return 1 if never else 0
 
 
-def compared(run: Run) -> Iterator[tuple]:
+def compared(run: Run) -> Iterator[tuple[Any, ...]]:
     """The place of each case that differs, with the case and its difference."""
     share = PROFILE_SHARE if run.given.profile_only else WIDE_SHARE
     made = cases(Numbers(run.given.seed), share, REVIEWS)

@@ -5,7 +5,7 @@ of the profile by what is written, whatever the program says of it.
 """
 
 import re
-from typing import Iterator, Optional
+from typing import Any, Iterator, Optional
 
 TEXT = (
     r'[rR]?(?:"""(?:\\.|[^\\])*?"""|\'\'\'(?:\\.|[^\\])*?\'\'\')|'
@@ -27,7 +27,7 @@ ENDS = (")", "]", "}")
 WORDS = ("in", "true", "false", "null")
 
 
-def tokens(text: str) -> Optional[list]:
+def tokens(text: str) -> Optional[list[Any]]:
     """The tokens as pairs of kind and text; `None` where the text has none of CEL's at some place."""
     found, at = [], 0
     while at < len(text):
@@ -40,9 +40,9 @@ def tokens(text: str) -> Optional[list]:
     return found
 
 
-def reasons(found: list) -> Iterator[str]:
+def reasons(found: list[Any]) -> Iterator[str]:
     """Why tokens are not in the profile, from the left."""
-    before: tuple = ("mark", "(")
+    before: tuple[Any, ...] = ("mark", "(")
     for kind, word in found:
         if kind == "raw" and "b" in word.lower()[:2]:
             yield LITERALS["bytes"]
@@ -59,7 +59,7 @@ def reasons(found: list) -> Iterator[str]:
         before = kind, word
 
 
-def ends_operand(token: tuple) -> bool:
+def ends_operand(token: tuple[Any, ...]) -> bool:
     """Whether an operand can end with this token."""
     kind, word = token
     return word in ENDS if kind == "mark" else word != "in"

@@ -48,14 +48,14 @@ def of_call(tree: Any) -> Optional[str]:
     return None
 
 
-def of_name(tree: Name, names: frozenset) -> Optional[str]:
+def of_name(tree: Name, names: frozenset[Any]) -> Optional[str]:
     """Why a name is not in the profile."""
     if tree.name in names:
         return None
     return "type value" if tree.name in TYPES else "name that is not bound"
 
 
-def keys_in(tree: Any) -> list:
+def keys_in(tree: Any) -> list[Any]:
     """The keys that a node writes: those of a map literal, and what `in` looks for in one."""
     if isinstance(tree, MapLiteral):
         return [key for key, _ in tree.entries]
@@ -64,7 +64,7 @@ def keys_in(tree: Any) -> list:
     return []
 
 
-def of_tree(tree: Any, names: frozenset) -> Iterator[str]:
+def of_tree(tree: Any, names: frozenset[Any]) -> Iterator[str]:
     """Why a tree is not in the profile, a node before its parts; `names` are those that have a value."""
     if isinstance(tree, Name):
         why = of_name(tree, names)
@@ -83,7 +83,7 @@ def of_tree(tree: Any, names: frozenset) -> Iterator[str]:
         yield from of_tree(part, names)
 
 
-def of_expression(text: str, names: frozenset) -> Optional[str]:
+def of_expression(text: str, names: frozenset[Any]) -> Optional[str]:
     """The first reason why an expression is not in the profile."""
     why = lexis.reason(text)
     if why:

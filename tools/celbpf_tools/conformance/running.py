@@ -29,7 +29,7 @@ OF_ERROR = {FAIL: NO_VALUE, IGNORE: ""}
 ILL_TYPED = "K6 validation 0 Y2"
 
 
-def with_names(expression: str, names: list) -> str:
+def with_names(expression: str, names: list[Any]) -> str:
     """The expression of type Dyn, with names bound to the values that the review has for them."""
     # the line feed ends a comment that the expression may end with
     whole = f"dyn({expression}\n)"
@@ -38,7 +38,7 @@ def with_names(expression: str, names: list) -> str:
     return whole
 
 
-def validations(case: Case, names: list) -> list[dict]:
+def validations(case: Case, names: list[Any]) -> list[dict[str, Any]]:
     """What tests the outcome of a case."""
     whole = with_names(case.expression, names)
     if case.wants_error:
@@ -49,12 +49,12 @@ def validations(case: Case, names: list) -> list[dict]:
     ]
 
 
-def policy(case: Case, names: list, failure_policy: str) -> dict:
+def policy(case: Case, names: list[Any], failure_policy: str) -> dict[str, Any]:
     spec = {"failurePolicy": failure_policy, "validations": validations(case, names)}
     return {**POLICY, "spec": spec}
 
 
-def review(case: Case, values: dict[str, Any]) -> dict:
+def review(case: Case, values: dict[str, Any]) -> dict[str, Any]:
     """A review whose object has the values of the names, and the wanted one."""
     seen = {"bound": values} if case.wants_error else {"bound": values, "wanted": wanted(case)}
     return {**REVIEW, "request": {"uid": "1", "object": seen}}
@@ -67,21 +67,21 @@ class Runner:
         self.program = program
         self.folder = folder
 
-    def write(self, name: str, document: dict) -> str:
+    def write(self, name: str, document: dict[str, Any]) -> str:
         """The path of a file with a document."""
         path = self.folder / name
         path.write_text(compact(document), encoding="utf-8")
         return str(path)
 
-    def run(self, *words: str) -> subprocess.CompletedProcess:
+    def run(self, *words: str) -> subprocess.CompletedProcess[str]:
         return subprocess.run([str(self.program), *words], capture_output=True, encoding="utf-8", check=False)
 
-    def compiled(self, document: dict) -> str:
+    def compiled(self, document: dict[str, Any]) -> str:
         """What `compile` says to a policy; empty where it makes the image."""
         ran = self.run("compile", self.write("policy.json", document), str(self.folder / "policy.img"))
         return "" if ran.returncode == 0 else ran.stderr.strip().removeprefix("celbpf: ")
 
-    def denial(self, policy_document: dict, review_document: dict) -> str:
+    def denial(self, policy_document: dict[str, Any], review_document: dict[str, Any]) -> str:
         """The message of a denial; empty where the request is allowed."""
         files = self.write("policy.json", policy_document), self.write("review.json", review_document)
         ran = self.run("review", "--policy", files[0], "--review", files[1])

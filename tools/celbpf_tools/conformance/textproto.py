@@ -30,13 +30,13 @@ class Message:
     """The fields of a message, by their names."""
 
     def __init__(self) -> None:
-        self.fields: dict[str, list] = {}
+        self.fields: dict[str, list[Any]] = {}
 
     def add(self, name: str, value: Any) -> None:
         """Appends a value to a field."""
         self.fields.setdefault(name, []).append(value)
 
-    def all(self, name: str) -> list:
+    def all(self, name: str) -> list[Any]:
         """The values of a repeated field."""
         return self.fields.get(name, [])
 
@@ -55,7 +55,7 @@ class Message:
 def unescaped(quoted: str) -> str:
     """The text of a quoted scalar. Escapes of bytes have to make UTF-8; other bytes become lone surrogates."""
 
-    def byte(match: re.Match) -> bytes:
+    def byte(match: re.Match[bytes]) -> bytes:
         octal, hexadecimal, short, long, simple = match.groups()
         if octal:
             return bytes([int(octal, 8) & 0xFF])
@@ -126,7 +126,7 @@ class Reader:
         self.taken("mark", "]")
         return "".join(token for _, token, _ in self.tokens[begin : self.at])
 
-    def values(self) -> list:
+    def values(self) -> list[Any]:
         """One value, or those of a list in brackets."""
         if not self.is_next("["):
             return [self.value()]

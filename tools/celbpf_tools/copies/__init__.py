@@ -16,7 +16,7 @@ MODULE = re.compile(r"^mod (.*);$", re.MULTILINE)
 
 
 @contextlib.contextmanager
-def copied(*left_out: Any) -> Iterator:
+def copied(*left_out: Any) -> Iterator[Any]:
     """A folder with a copy of the crates, without what has one of these names; it is there as long as it is used."""
     with tempfile.TemporaryDirectory() as folder:
         shutil.copytree(ROOT / "crates", Path(folder, "crates"), ignore=shutil.ignore_patterns(*left_out))

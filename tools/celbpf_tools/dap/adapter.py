@@ -1,27 +1,28 @@
 """Reads requests, answers them in their order, and makes the moves between them."""
 
 import sys
-from typing import BinaryIO, Callable, Optional
+from typing import Any, BinaryIO, Callable, Optional
 
 from ..entry import Stop
 from .arguments import Arguments, BadRequest
 from .child import Ended, Refused
 from .debuggee import Debuggee
+from .launching import Given
 from .messages import BrokenMessage, BrokenStream, Connection
 from .moving import Moving
 from .setting import Setting
 from .showing import Showing
 
-Handler = Callable[[Arguments], Optional[dict]]
+Handler = Callable[[Arguments], Optional[dict[str, Any]]]
 
 
 class Adapter:
-    """An adapter on two streams; `program` is the program that it was given, if it was."""
+    """An adapter on two streams, and what it was given."""
 
-    def __init__(self, source: int, target: BinaryIO, program: Optional[str] = None):
+    def __init__(self, source: int, target: BinaryIO, given: Given = Given()):
         self.connection = Connection(source, target)
-        self.debuggee = Debuggee(self.connection, program)
-        groups = [Setting(self.debuggee), Showing(self.debuggee), Moving(self.debuggee)]
+        self.debuggee = Debuggee(self.connection, given)
+        groups: list[Any] = [Setting(self.debuggee), Showing(self.debuggee), Moving(self.debuggee)]
         self.handlers: dict[str, Handler] = {name: handler for group in groups for name, handler in group.handlers.items()}
 
     def serve(self) -> None:
@@ -55,7 +56,7 @@ class Adapter:
             self.connection.pump(None)
         return True
 
-    def take(self, message: dict) -> None:
+    def take(self, message: dict[str, Any]) -> None:
         """Answers a message, and then sends what comes after the answer."""
         if message.get("type") != "request":
             self.say(f"a message that is no request: type {message.get('type')!r}"[:200])
@@ -65,7 +66,7 @@ class Adapter:
         for told in after:
             self.guarded(told)
 
-    def answer(self, request: dict) -> None:
+    def answer(self, request: dict[str, Any]) -> None:
         """Does a request, and answers it."""
         try:
             name = request.get("command")
@@ -99,6 +100,6 @@ class Adapter:
         self.connection.event("output", {"category": "stderr", "output": f"celbpf-dap: {line}\n"})
 
 
-def standard(program: Optional[str]) -> Adapter:
+def standard(given: Given) -> Adapter:
     """The adapter on the standard streams; nothing else may write to the standard output."""
-    return Adapter(sys.stdin.fileno(), sys.stdout.buffer, program)
+    return Adapter(sys.stdin.fileno(), sys.stdout.buffer, given)

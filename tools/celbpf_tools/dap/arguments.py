@@ -13,7 +13,7 @@ class Arguments:
     def __init__(self, found: Any):
         if found is not None and not isinstance(found, dict):
             raise BadRequest("arguments: not an object")
-        self.found: dict = found or {}
+        self.found: dict[str, Any] = found or {}
 
     def optional(self, key: str, kind: type, named: str) -> Any:
         """The value of a key, or `None` if it is missing or null."""

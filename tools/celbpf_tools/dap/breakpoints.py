@@ -1,6 +1,6 @@
 """The breakpoints of a session: groups of slots, each replaced as a whole, of which the process keeps the union."""
 
-from typing import Iterable, Optional
+from typing import Any, Iterable, Optional
 
 from .child import Child, Refused
 
@@ -25,7 +25,7 @@ class Breakpoints:
         """All slots at which a run stops."""
         return {slot for group in self.groups.values() for slot in group}
 
-    def replace(self, child: Child, group: Group, wanted: Iterable[tuple[int, tuple]]) -> dict[int, str]:
+    def replace(self, child: Child, group: Group, wanted: Iterable[tuple[int, tuple[Any, ...]]]) -> dict[int, str]:
         """Replaces a group by breakpoints, each a number and its slots; why some were not set, by their numbers."""
         before = self.slots()
         self.groups[group] = {}

@@ -3,7 +3,7 @@
 import re
 import subprocess
 from dataclasses import dataclass
-from typing import IO, Any, Optional
+from typing import Any, Optional
 
 # a line without a form: its answer marks the end of the answer before it
 MARK = b"."
@@ -54,12 +54,12 @@ def place_in(line: str) -> Place:
 class Child:
     """A session; after `ended` it answers nothing."""
 
-    def __init__(self, words: list):
+    def __init__(self, words: list[Any]):
         pipe = subprocess.PIPE
         # a new process group: an interrupt of the terminal is for the adapter, which ends the process itself
         self.process = subprocess.Popen(words, stdin=pipe, stdout=pipe, stderr=pipe, start_new_session=True)
-        self.input: IO[bytes] = self.process.stdin
-        self.output: IO[bytes] = self.process.stdout
+        self.input: Any = self.process.stdin
+        self.output: Any = self.process.stdout
 
     def ask(self, line: str) -> list[str]:
         """The lines of the answer."""

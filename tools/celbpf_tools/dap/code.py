@@ -2,7 +2,7 @@
 
 import bisect
 from dataclasses import dataclass
-from typing import Optional
+from typing import Any, Optional
 
 HEADER = 16
 SLOT = 8
@@ -65,7 +65,7 @@ class Code:
         """The bytes of a line's slots as hex digits, two for each byte."""
         return self.bytes[SLOT * line.slot : SLOT * (line.slot + line.size)].hex(" ")
 
-    def disassembled(self, slot: int, offset: int, count: int) -> list[dict]:
+    def disassembled(self, slot: int, offset: int, count: int) -> list[dict[str, Any]]:
         """`count` instructions from the one that is `offset` lines after that of a slot; outside the code they are invalid."""
         at = self.index_near(slot) + offset
         return [self.instruction(place) for place in range(at, at + count)]
@@ -77,7 +77,7 @@ class Code:
         line = self.line_of(slot)
         return line - 1 if line is not None else len(self.lines) + slot - self.slots
 
-    def instruction(self, place: int) -> dict:
+    def instruction(self, place: int) -> dict[str, Any]:
         """The instruction at a place among the lines, as the protocol shows it."""
         if place < 0:
             return {"address": str(place), "instruction": "outside the code", "presentationHint": "invalid"}

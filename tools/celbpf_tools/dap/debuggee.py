@@ -6,7 +6,7 @@ from .arguments import BadRequest
 from .breakpoints import Breakpoints
 from .capabilities import FAULT_FILTER, FAULTS
 from .evaluating import Evaluator
-from .launching import Launched
+from .launching import Given, Launched
 from .messages import Connection
 from .motions import DATA, END, Motion, Run
 from .variables import OUTCOMES, Store, View
@@ -34,9 +34,9 @@ class Session:
 class Debuggee:
     """The state that requests share. `after` is what is sent once the request is answered."""
 
-    def __init__(self, connection: Connection, program: Optional[str]):
+    def __init__(self, connection: Connection, given: Given):
         self.connection = connection
-        self.program = program
+        self.given = given
         self.session: Optional[Session] = None
         self.store = Store()
         self.motion: Optional[Motion] = None

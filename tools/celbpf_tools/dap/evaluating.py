@@ -2,9 +2,10 @@
 
 import json
 import re
+from typing import Any
 
-from ..asking import policies
 from ..asking.program import NotAnswered, Program
+from ..asking.values import Values
 from .arguments import BadRequest
 from .child import Place, Refused
 from .variables import View
@@ -18,12 +19,12 @@ REFUSED = ("? what", "? range", "? memory")
 class Evaluator:
     """Answers texts at the place of a session; `scope` are the policy's variables."""
 
-    def __init__(self, view: View, program: Program, scope: list):
+    def __init__(self, view: View, program: Program, scope: list[Any]):
         self.view = view
         self.program = program
         self.scope = scope
 
-    def variable(self, text: str, place: Place) -> dict:
+    def variable(self, text: str, place: Place) -> dict[str, Any]:
         """What a text names, as a variable; a text that names nothing is a `BadRequest`."""
         text = text.strip()
         where = {"pc": str(place.pc), "step": str(place.step), "status": place.status}
@@ -38,19 +39,19 @@ class Evaluator:
             return self.shown(text)
         return self.of_cel(text)
 
-    def shown(self, line: str) -> dict:
+    def shown(self, line: str) -> dict[str, Any]:
         """The answer of the debugger to a line."""
         try:
             return self.view.plain(line, "\n".join(self.view.child.many(line)))
         except Refused as why:
             raise BadRequest(f"{line}: {why}") from why
 
-    def of_cel(self, text: str) -> dict:
+    def of_cel(self, text: str) -> dict[str, Any]:
         """The value of an expression over the review, with the policy's variables."""
         if not text:
             raise BadRequest("expression: empty")
         try:
-            found = self.program.value(policies.asking(self.scope, text))
+            found = Values(self.program, self.scope).of(text, [])
         except NotAnswered as why:
             raise BadRequest(f"{text}: celbpf: {why.line}") from why
         if found == "error":

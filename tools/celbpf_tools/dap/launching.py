@@ -8,19 +8,29 @@ from pathlib import Path
 from typing import Any, Optional
 
 from ..asking import policies
-from ..asking.files import Files
 from ..asking.program import NotAnswered, Program, located
+from ..asking.translating import Translating, gatekeeper_of
 from ..documents import Unreadable
 from ..entry import Stop, told
+from ..testing.answers import Asked
 from .arguments import Arguments, BadRequest
 from .child import Child, Ended
 from .code import Code
-from .parts import Parts, parts_of
+from .parts import Parts, parts_of, texts_of
 
 # what a step of an editor goes by: a part of the policy, a sub-expression, or an instruction
 PART, PIECE, INSTRUCTION = "part", "expression", "instruction"
 DOCUMENTS = ("review", "namespace", "params")
 IMAGE = "launched.img"
+
+
+@dataclass(frozen=True)
+class Given:
+    """What the adapter was given: its programs, and whether policies are read as celbpf reads them."""
+
+    program: Optional[str] = None
+    gatekeeper: Optional[str] = None
+    is_profile: bool = False
 
 
 @dataclass
@@ -35,6 +45,9 @@ class Order:
     stops_on_entry: bool
     stops_at_all: bool
     step_by: str = PART
+    gatekeeper: Optional[str] = None
+    is_profile: bool = False
+    is_translated: bool = False
 
     @property
     def title(self) -> str:
@@ -50,7 +63,7 @@ def named(given: Arguments, key: str) -> Optional[str]:
     return name
 
 
-def ordered(given: Arguments, program: Optional[str]) -> Order:
+def ordered(given: Arguments, own: Given) -> Order:
     """The order in the arguments of a launch; a relative path is one of the folder `cwd`."""
     folder = named(given, "cwd") or ""
 
@@ -67,7 +80,10 @@ def ordered(given: Arguments, program: Optional[str]) -> Order:
     step_by = given.text("stepBy") or PART
     if step_by not in (PART, PIECE, INSTRUCTION):
         raise BadRequest(f"stepBy: not {PART}, {PIECE} or {INSTRUCTION}")
-    return Order(image, policy, documents, path("listing"), path("program") or program, on_entry, stops, step_by)
+    made = Order(image, policy, documents, path("listing"), path("program") or own.program, on_entry, stops, step_by)
+    made.gatekeeper = path("gatekeeper") or own.gatekeeper
+    made.is_profile, made.is_translated = given.truth("profile", own.is_profile), given.truth("translated", False)
+    return made
 
 
 @dataclass
@@ -78,9 +94,9 @@ class Launched:
     code: Code
     child: Child
     program: Program
-    folder: tempfile.TemporaryDirectory
+    folder: tempfile.TemporaryDirectory[str]
     parts: Parts = field(default_factory=Parts)
-    scope: list = field(default_factory=list)
+    scope: list[Any] = field(default_factory=list)
 
     def close(self) -> None:
         """Ends the process and removes the files."""
@@ -101,7 +117,7 @@ def image_of(order: Order, program: Program, folder: str) -> str:
     if order.image:
         return order.image
     image = os.path.join(folder, IMAGE)
-    ran = program.run("compile", str(order.policy), image)
+    ran = program.run("compile", program.compilable(order.policy), image)
     if ran.returncode:
         raise NotAnswered(ran)
     return image
@@ -109,15 +125,25 @@ def image_of(order: Order, program: Program, folder: str) -> str:
 
 def with_files(order: Order, folder: str) -> Order:
     """The order with files that can be opened more than once."""
-    files = Files(folder)
+    asked = Asked(Path(folder))
+    files = asked.files
     documents = [word if word.startswith("--") else files.named(word) for word in order.documents]
-    return replace(order, image=files.maybe(order.image), policy=files.maybe(order.policy), documents=documents)
+    policy = asked.file(order.policy, Path()) if order.policy else None
+    return replace(order, image=files.maybe(order.image), policy=policy, documents=documents)
 
 
-def started(order: Order, folder: tempfile.TemporaryDirectory) -> Launched:
+def program_of(order: Order, folder: str) -> Program:
+    """What runs an image, or answers for a policy."""
+    celbpf = located(order.program)
+    if order.image or order.is_profile:
+        return Program(celbpf, folder, order.documents)
+    return Translating(celbpf, gatekeeper_of(order.gatekeeper, order.program), folder, order.documents)
+
+
+def started(order: Order, folder: tempfile.TemporaryDirectory[str]) -> Launched:
     """The session of an order, in a folder for its files."""
     given, order = order, with_files(order, folder.name)
-    program = Program(located(order.program), folder.name, order.documents)
+    program = program_of(order, folder.name)
     image = image_of(order, program, folder.name)
     listed = program.run("list", image)
     if listed.returncode:
@@ -129,8 +155,8 @@ def started(order: Order, folder: tempfile.TemporaryDirectory) -> Launched:
     made = Launched(given, code, child, program, folder)
     if order.policy:
         document = policies.read(order.policy)
-        made.scope = document["spec"].get("variables", [])
-        made.parts = parts_of(document, listed.stdout)
+        made.scope = document["spec"].get("variables") or []
+        made.parts = parts_of(program.document(order.policy), listed.stdout, {} if order.is_translated else texts_of(document))
     return made
 
 

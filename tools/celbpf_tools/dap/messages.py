@@ -35,7 +35,7 @@ def length_in(header: bytes) -> int:
     raise BrokenStream("a header without Content-Length")
 
 
-def object_in(body: bytes) -> dict:
+def object_in(body: bytes) -> dict[str, Any]:
     """The JSON object of a body."""
     try:
         found = json.loads(body)
@@ -65,7 +65,7 @@ class Connection:
         self.unread += found
         return True
 
-    def next(self) -> Optional[dict]:
+    def next(self) -> Optional[dict[str, Any]]:
         """The next message that was read to its end, or `None` if there is none yet."""
         header, end, rest = self.unread.partition(HEADER_END)
         if not end:
@@ -82,29 +82,29 @@ class Connection:
         self.unread = rest[length:]
         return object_in(rest[:length])
 
-    def send(self, kind: str, fields: dict) -> None:
+    def send(self, kind: str, fields: dict[str, Any]) -> None:
         """Writes a message of a kind: `response` or `event`."""
         self.sent += 1
         body = json.dumps({"seq": self.sent, "type": kind, **fields}, separators=(",", ":")).encode()
         self.target.write(b"Content-Length: %d%s%s" % (len(body), HEADER_END, body))
         self.target.flush()
 
-    def event(self, name: str, body: Optional[dict] = None) -> None:
+    def event(self, name: str, body: Optional[dict[str, Any]] = None) -> None:
         """Writes an event."""
         self.send("event", {"event": name, **({"body": body} if body is not None else {})})
 
-    def respond(self, request: dict, body: Optional[dict] = None) -> None:
+    def respond(self, request: dict[str, Any], body: Optional[dict[str, Any]] = None) -> None:
         """Writes the response to a request that was done."""
         self.send("response", {**answers(request), "success": True, **({"body": body} if body is not None else {})})
 
-    def refuse(self, request: dict, line: str) -> None:
+    def refuse(self, request: dict[str, Any], line: str) -> None:
         """Writes the response to a request that was not done, with the reason."""
         # a variable in braces would be looked up among others, so the text is one
         error = {"id": 1, "format": "{line}", "variables": {"line": line}, "showUser": True}
         self.send("response", {**answers(request), "success": False, "message": line, "body": {"error": error}})
 
 
-def answers(request: dict) -> dict[str, Any]:
+def answers(request: dict[str, Any]) -> dict[str, Any]:
     """The fields that say which request a response is for."""
     seq = request.get("seq")
     is_number = isinstance(seq, int) and not isinstance(seq, bool)

@@ -8,7 +8,7 @@ import time
 from typing import Callable, Generator, Optional
 
 from .breakpoints import PASSING, Breakpoints
-from .child import Child, Place, Refused
+from .child import Child, Place
 from .code import Code
 
 Motion = Generator[None, None, str]

@@ -1,6 +1,6 @@
 """The requests that move a session. A move is made after its response; `stopped` tells where it ended."""
 
-from typing import Optional
+from typing import Any, Optional
 
 from .arguments import Arguments, BadRequest
 from .debuggee import THREAD, Debuggee, Session
@@ -45,13 +45,13 @@ class Moving:
         else:
             self.debuggee.after.append(self.debuggee.finish)
 
-    def go_on(self, given: Arguments) -> Optional[dict]:
+    def go_on(self, given: Arguments) -> Optional[dict[str, Any]]:
         """On to a breakpoint, the making of a watched value, or the end."""
         session = self.moved(given)
         self.forward(session, session.run.proceed())
         return {"allThreadsContinued": True}
 
-    def next(self, given: Arguments) -> Optional[dict]:
+    def next(self, given: Arguments) -> Optional[dict[str, Any]]:
         """One step on, past local calls."""
         session = self.moved(given)
         run: Run = session.run
@@ -59,7 +59,7 @@ class Moving:
         self.forward(session, run.next_part(named, False) if named else run.over())
         return None
 
-    def step_in(self, given: Arguments) -> Optional[dict]:
+    def step_in(self, given: Arguments) -> Optional[dict[str, Any]]:
         """One step on, into local calls."""
         session = self.moved(given)
         run: Run = session.run
@@ -67,13 +67,13 @@ class Moving:
         self.forward(session, run.next_part(named, True) if named else run.step())
         return None
 
-    def step_out(self, given: Arguments) -> Optional[dict]:
+    def step_out(self, given: Arguments) -> Optional[dict[str, Any]]:
         """On to the end of the newest local call, or of the program."""
         session = self.moved(given)
         self.forward(session, session.run.out())
         return None
 
-    def step_back(self, given: Arguments) -> Optional[dict]:
+    def step_back(self, given: Arguments) -> Optional[dict[str, Any]]:
         """One step back."""
         session = self.moved(given)
         run: Run = session.run
@@ -81,13 +81,13 @@ class Moving:
         self.debuggee.begin(run.last_part(named) if named else run.step_back())
         return None
 
-    def reverse(self, given: Arguments) -> Optional[dict]:
+    def reverse(self, given: Arguments) -> Optional[dict[str, Any]]:
         """Back to a breakpoint, to the making of a watched value, or to step 0."""
         session = self.moved(given)
         self.debuggee.begin(session.run.reverse())
         return None
 
-    def pause(self, _: Arguments) -> Optional[dict]:
+    def pause(self, _: Arguments) -> Optional[dict[str, Any]]:
         """Stops a run; of one that is at rest it tells the place again."""
         self.debuggee.launched()
         self.debuggee.interrupt()

@@ -1,8 +1,10 @@
 """The parts of a policy: to which of them a slot belongs, where each begins, and which values a place has."""
 
-from typing import Optional
+from typing import Any, Optional
 
+from ..asking import policies
 from ..slots.mapping import NotMapped, SlotMap, Span, map_of
+from ..slots.nodes import is_same
 
 # the most characters of a sub-expression beside a slot
 SHOWN = 60
@@ -15,10 +17,14 @@ def on_one_line(text: str) -> str:
 
 
 class Parts:
-    """Parts by their titles, as `validation 0`; without a map, as of an image alone, there are none."""
+    """Parts by their titles, as `validation 0`; without a map, as of an image alone, there are none.
 
-    def __init__(self, found: Optional[SlotMap] = None):
+    `texts` has the texts of parts as their author wrote them, to be shown for parts that are translated.
+    """
+
+    def __init__(self, found: Optional[SlotMap] = None, texts: Optional[dict[Any, Any]] = None):
         self.map = found
+        self.texts = texts or {}
 
     def __bool__(self) -> bool:
         return self.map is not None
@@ -42,7 +48,13 @@ class Parts:
         span = self.span(slot)
         if not span:
             return f"slot {slot}"
-        return f"{span.title}: {on_one_line(span.text) or span.role}"
+        return f"{span.title}: {on_one_line(self.text_of(span)) or span.role}"
+
+    def text_of(self, span: Span) -> str:
+        """The text of a sub-expression; of a part that is translated, the part as its author wrote it."""
+        part = span.part
+        written = self.texts.get((part.kind, part.place), "") if part and span.text else ""
+        return written if part and written and not is_same(written, part.text) else span.text
 
     def slots_of(self, name: str) -> tuple[int, ...]:
         """The first slots of a part's expression: `validation 0`, `message 0`, or the name of a variable or condition."""
@@ -65,9 +77,14 @@ def names_of(span: Span) -> tuple[str, ...]:
     return (f"{part.kind} {part.place}", part.title, *named)
 
 
-def parts_of(policy: dict, listing: str) -> Parts:
+def texts_of(policy: dict[Any, Any]) -> dict[Any, Any]:
+    """The texts of the parts of a policy, by their kinds and places."""
+    return {(part.kind, part.place): part.text for part in policies.parts(policy)}
+
+
+def parts_of(policy: dict[Any, Any], listing: str, texts: dict[Any, Any]) -> Parts:
     """The parts of a policy whose program has this listing; none if there is no map."""
     try:
-        return Parts(map_of(policy, listing))
+        return Parts(map_of(policy, listing), texts)
     except NotMapped:
         return Parts()

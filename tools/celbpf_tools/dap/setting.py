@@ -3,7 +3,7 @@
 import os
 import re
 from dataclasses import dataclass
-from typing import Optional
+from typing import Any, Optional
 
 from .arguments import Arguments, BadRequest
 from .breakpoints import FUNCTION, INSTRUCTION, LINE, Group
@@ -47,12 +47,12 @@ class Setting:
 
     # -- the beginning
 
-    def initialize(self, given: Arguments) -> Optional[dict]:
+    def initialize(self, given: Arguments) -> Optional[dict[str, Any]]:
         """What the adapter can do; the client says from which number it counts lines."""
         self.debuggee.first = 1 if given.truth("linesStartAt1", True) else 0
         return CAPABILITIES
 
-    def launch(self, given: Arguments) -> Optional[dict]:
+    def launch(self, given: Arguments) -> Optional[dict[str, Any]]:
         """Launches an image, or a policy that it compiles first; then breakpoints can be set."""
         if self.debuggee.session:
             raise BadRequest("launch: a session is there; restart it, or end it first")
@@ -63,15 +63,15 @@ class Setting:
 
     def begin(self, given: Arguments) -> None:
         """Launches what the arguments ask for."""
-        made = launched(ordered(given, self.debuggee.program))
+        made = launched(ordered(given, self.debuggee.given))
         self.debuggee.session = Session(made, self.debuggee.store)
         self.launch_words = given
 
-    def attach(self, _: Arguments) -> Optional[dict]:
+    def attach(self, _: Arguments) -> Optional[dict[str, Any]]:
         """Refused: each session has a process of its own."""
         raise BadRequest("attach: there is no process to attach to; launch an image or a policy")
 
-    def configured(self, _: Arguments) -> Optional[dict]:
+    def configured(self, _: Arguments) -> Optional[dict[str, Any]]:
         """Begins the session once its breakpoints are set."""
         self.debuggee.launched()
         if not self.is_configured:
@@ -89,7 +89,7 @@ class Setting:
 
     # -- breakpoints
 
-    def asked(self, group: Group, wishes: list[dict]) -> Optional[dict]:
+    def asked(self, group: Group, wishes: list[dict[str, Any]]) -> Optional[dict[str, Any]]:
         """Replaces a group of breakpoints; what became of each."""
         session = self.debuggee.launched()
         made = []
@@ -99,7 +99,7 @@ class Setting:
         self.wishes[group] = made
         return {"breakpoints": self.put(session, group)}
 
-    def put(self, session: Session, group: Group) -> list[dict]:
+    def put(self, session: Session, group: Group) -> list[dict[str, Any]]:
         """Sets the breakpoints of a group in a session; what became of each."""
         found = [(wish, self.slots_of(session, group, wish)) for wish in self.wishes[group]]
         stops = session.launched.order.stops_at_all
@@ -108,8 +108,9 @@ class Setting:
         answers = []
         for wish, (slots, why) in found:
             why = refused.get(wish.number, why)
-            where = self.place_of(session, slots[0]) if slots else {}
-            answers.append({"id": wish.number, "verified": not why, **where, **({"message": why} if why else {})})
+            where: dict[str, Any] = self.place_of(session, slots[0]) if slots else {}
+            told: dict[str, Any] = {"message": why} if why else {}
+            answers.append({"id": wish.number, "verified": not why, **where, **told})
         return answers
 
     def slots_of(self, session: Session, group: Group, wish: Wish) -> tuple[tuple[int, ...], str]:
@@ -128,7 +129,7 @@ class Setting:
         slot = session.code.slot_of(wish.line)
         return ((slot,), "") if slot is not None else ((), f"the listing has {len(session.code.lines)} lines")
 
-    def place_of(self, session: Session, slot: int) -> dict:
+    def place_of(self, session: Session, slot: int) -> dict[str, Any]:
         """Where a slot is shown."""
         line = session.code.line_of(slot) or 0
         return {"source": listing_of(session), "line": self.debuggee.line(line), "instructionReference": str(slot)}
@@ -143,14 +144,14 @@ class Setting:
         is_named = not path and source.text("name") == listing_of(session)["name"]
         return "" if is_named else path or source.text("name") or "unknown"
 
-    def lines(self, given: Arguments) -> Optional[dict]:
+    def lines(self, given: Arguments) -> Optional[dict[str, Any]]:
         """Replaces the breakpoints on lines of a source."""
         session = self.debuggee.launched()
         name = self.source_name(session, given.part("source"))
         wishes = [{"line": self.debuggee.own_line(one.number("line"))} for one in given.parts("breakpoints")]
         return self.asked((LINE, name), wishes)
 
-    def instructions(self, given: Arguments) -> Optional[dict]:
+    def instructions(self, given: Arguments) -> Optional[dict[str, Any]]:
         """Replaces the breakpoints on instructions."""
         wishes = [
             {"slot": number_of(one.needed_text("instructionReference"), "instructionReference") + one.number("offset", 0)}
@@ -158,11 +159,11 @@ class Setting:
         ]
         return self.asked((INSTRUCTION, ""), wishes)
 
-    def functions(self, given: Arguments) -> Optional[dict]:
+    def functions(self, given: Arguments) -> Optional[dict[str, Any]]:
         """Replaces the breakpoints on parts of the policy."""
         return self.asked((FUNCTION, ""), [{"name": one.needed_text("name")} for one in given.parts("breakpoints")])
 
-    def exceptions(self, given: Arguments) -> Optional[dict]:
+    def exceptions(self, given: Arguments) -> Optional[dict[str, Any]]:
         """Replaces the filters: whether a session stops at a fault."""
         options = [one.needed_text("filterId") for one in given.parts("filterOptions")]
         asked = given.texts("filters") + options
@@ -170,10 +171,11 @@ class Setting:
         unknown = {one: {"message": f"{one}: no filter"} for one in asked if one != FAULT_FILTER}
         return {"breakpoints": [{"verified": one not in unknown, **unknown.get(one, {})} for one in asked]}
 
-    def data(self, given: Arguments) -> Optional[dict]:
+    def data(self, given: Arguments) -> Optional[dict[str, Any]]:
         """Replaces the values at whose making a run stops."""
         session = self.debuggee.launched()
-        answers, watched = [], set()
+        answers: list[dict[str, Any]] = []
+        watched = set()
         for one in given.parts("breakpoints"):
             name = one.needed_text("dataId")
             found = DATA_ID.match(name)
@@ -184,7 +186,7 @@ class Setting:
         session.run.watched = watched
         return {"breakpoints": answers}
 
-    def locations(self, given: Arguments) -> Optional[dict]:
+    def locations(self, given: Arguments) -> Optional[dict[str, Any]]:
         """The lines of a range on which a breakpoint can be set."""
         session = self.debuggee.launched()
         if self.source_name(session, given.part("source")):
@@ -197,7 +199,7 @@ class Setting:
 
     # -- the end
 
-    def restart(self, given: Arguments) -> Optional[dict]:
+    def restart(self, given: Arguments) -> Optional[dict[str, Any]]:
         """Launches again, so that a policy that was changed is compiled anew; the breakpoints are set again."""
         self.debuggee.launched()
         more = given.part("arguments")
@@ -220,14 +222,14 @@ class Setting:
             for one in self.put(session, group):
                 self.debuggee.connection.event("breakpoint", {"reason": "changed", "breakpoint": one})
 
-    def terminate(self, _: Arguments) -> Optional[dict]:
+    def terminate(self, _: Arguments) -> Optional[dict[str, Any]]:
         """Ends the session; the adapter goes on."""
         self.debuggee.launched()
         self.debuggee.interrupt()
         self.debuggee.after.append(self.debuggee.terminate)
         return None
 
-    def disconnect(self, _: Arguments) -> Optional[dict]:
+    def disconnect(self, _: Arguments) -> Optional[dict[str, Any]]:
         """Ends the session and the adapter."""
         self.debuggee.close()
         self.debuggee.is_over = True

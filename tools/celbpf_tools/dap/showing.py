@@ -2,7 +2,7 @@
 
 import base64
 import re
-from typing import Optional
+from typing import Any, Optional
 
 from .arguments import Arguments, BadRequest
 from .capabilities import FAULTS
@@ -26,7 +26,7 @@ def number_of(text: str, key: str) -> int:
         raise BadRequest(f"{key}: {text[:60]} is no address") from why
 
 
-def listing_of(session: Session) -> dict:
+def listing_of(session: Session) -> dict[str, Any]:
     """The listing as a source: the file that it was written to, or a number to ask for it by."""
     order = session.launched.order
     source = {"name": f"{order.title} listing", "origin": "disassembly"}
@@ -45,13 +45,13 @@ class Showing:
             "dataBreakpointInfo": self.data_info,
         }
 
-    def threads(self, _: Arguments) -> Optional[dict]:
+    def threads(self, _: Arguments) -> Optional[dict[str, Any]]:
         """The one thread, by the name of the file that is launched."""
         session = self.debuggee.session
         name = session.launched.order.title if session else "nothing is launched"
         return {"threads": [{"id": THREAD, "name": name}]}
 
-    def stack(self, given: Arguments) -> Optional[dict]:
+    def stack(self, given: Arguments) -> Optional[dict[str, Any]]:
         """The frames, the newest first."""
         session = self.debuggee.shown()
         slots = [session.run.place.pc, *(int(record.split()[1]) for record in session.run.records())]
@@ -60,7 +60,7 @@ class Showing:
         frames = [self.frame(session, number, slot) for number, slot in enumerate(slots)]
         return {"stackFrames": frames[max(start, 0) : end], "totalFrames": len(slots)}
 
-    def frame(self, session: Session, number: int, slot: int) -> dict:
+    def frame(self, session: Session, number: int, slot: int) -> dict[str, Any]:
         """The frame of a number, 0 for the newest, which is at a slot."""
         found = {"id": number + 1, "name": session.parts.name_at(slot), "column": self.debuggee.first}
         line = session.code.line_of(slot)
@@ -76,13 +76,13 @@ class Showing:
             raise BadRequest(f"frameId: there is no frame {frame}")
         return None if frame == 1 else records[frame - 2]
 
-    def scopes(self, given: Arguments) -> Optional[dict]:
+    def scopes(self, given: Arguments) -> Optional[dict[str, Any]]:
         """The groups of variables of a frame."""
         session = self.debuggee.shown()
         record = self.record(session, given.number("frameId"))
         return {"scopes": session.view.scopes(session.run.place, record)}
 
-    def variables(self, given: Arguments) -> Optional[dict]:
+    def variables(self, given: Arguments) -> Optional[dict[str, Any]]:
         """The variables of a group or of a value."""
         self.debuggee.shown()
         number = given.number("variablesReference")
@@ -92,7 +92,7 @@ class Showing:
             raise BadRequest(f"variablesReference: {number} is none of this stop")
         return {"variables": found}
 
-    def source(self, given: Arguments) -> Optional[dict]:
+    def source(self, given: Arguments) -> Optional[dict[str, Any]]:
         """The text of the listing."""
         session = self.debuggee.launched()
         number = given.part("source").number("sourceReference", given.number("sourceReference", 0))
@@ -100,11 +100,11 @@ class Showing:
             raise BadRequest(f"sourceReference: there is no source {number}")
         return {"content": session.code.text, "mimeType": "text/plain"}
 
-    def sources(self, _: Arguments) -> Optional[dict]:
+    def sources(self, _: Arguments) -> Optional[dict[str, Any]]:
         """The listing, which is the only source."""
         return {"sources": [listing_of(self.debuggee.launched())]}
 
-    def disassemble(self, given: Arguments) -> Optional[dict]:
+    def disassemble(self, given: Arguments) -> Optional[dict[str, Any]]:
         """Instructions from one on; as many as asked for, also outside the code."""
         session = self.debuggee.launched()
         slot = number_of(given.needed_text("memoryReference"), "memoryReference") + given.number("offset", 0)
@@ -120,7 +120,7 @@ class Showing:
             found[0]["location"] = listing_of(session)
         return {"instructions": found}
 
-    def memory(self, given: Arguments) -> Optional[dict]:
+    def memory(self, given: Arguments) -> Optional[dict[str, Any]]:
         """Bytes of a region, in base64."""
         session = self.debuggee.shown()
         address = number_of(given.needed_text("memoryReference"), "memoryReference") + given.number("offset", 0)
@@ -132,7 +132,7 @@ class Showing:
         missing = {"unreadableBytes": count - len(found)} if len(found) < count else {}
         return {"address": f"0x{address:016x}" if address >= 0 else str(address), **data, **missing}
 
-    def evaluate(self, given: Arguments) -> Optional[dict]:
+    def evaluate(self, given: Arguments) -> Optional[dict[str, Any]]:
         """The value of what is typed."""
         session = self.debuggee.shown()
         text = given.needed_text("expression")
@@ -142,7 +142,7 @@ class Showing:
         kept = ("type", "variablesReference", "namedVariables", "indexedVariables", "memoryReference")
         return {"result": found["value"], **{key: found[key] for key in kept if key in found}}
 
-    def exception(self, _: Arguments) -> Optional[dict]:
+    def exception(self, _: Arguments) -> Optional[dict[str, Any]]:
         """The fault that stopped the machine."""
         session = self.debuggee.shown()
         fault = session.run.place.fault
@@ -150,7 +150,7 @@ class Showing:
             raise BadRequest("the machine is not stopped by a fault")
         return {"exceptionId": fault, "description": FAULTS.get(fault, fault), "breakMode": "always"}
 
-    def data_info(self, given: Arguments) -> Optional[dict]:
+    def data_info(self, given: Arguments) -> Optional[dict[str, Any]]:
         """A value that the program has placed can be watched; it is named by its reference, or by a register with it."""
         session = self.debuggee.shown()
         name = given.needed_text("name")

@@ -1,10 +1,12 @@
 """What a place of the run shows, as the protocol's variables."""
 
+import functools
 import json
 import re
 from dataclasses import dataclass
 from typing import Any, Callable, Optional
 
+from ..slots.mapping import Span
 from .child import Child, Place, Refused
 from .code import Code
 from .parts import Parts, on_one_line
@@ -45,7 +47,7 @@ class Node:
     """Variables that a client can open: `fetch` gives those from one place to another of the `count`."""
 
     count: int
-    fetch: Callable[[int, int], list]
+    fetch: Callable[[int, int], list[Any]]
     is_indexed: bool = False
     # how many are given at most if a client asks for all, from the last on
     most: Optional[int] = None
@@ -68,7 +70,7 @@ class Store:
         self.nodes[self.given] = node
         return self.given
 
-    def children(self, number: int, kind: Optional[str], start: int, count: int) -> Optional[list]:
+    def children(self, number: int, kind: Optional[str], start: int, count: int) -> Optional[list[Any]]:
         """The variables of a node, or `None` if there is no such node; `count` 0 asks for all."""
         node = self.nodes.get(number)
         if node is None:
@@ -91,16 +93,16 @@ class View:
 
     # -- variables of one kind each
 
-    def plain(self, name: str, value: str, kind: str = "", **more: Any) -> dict:
+    def plain(self, name: str, value: str, kind: str = "", **more: Any) -> dict[str, Any]:
         """A variable without parts."""
         return {"name": name, "value": value, **({"type": kind} if kind else {}), "variablesReference": 0, **more}
 
-    def opened(self, name: str, value: str, node: Node, **more: Any) -> dict:
+    def opened(self, name: str, value: str, node: Node, **more: Any) -> dict[str, Any]:
         """A variable with parts."""
         counted = {"indexedVariables" if node.is_indexed else "namedVariables": node.count}
         return {"name": name, "value": value, "variablesReference": self.store.put(node), **counted, **more}
 
-    def of_json(self, name: str, value: Any, path: str = "") -> dict:
+    def of_json(self, name: str, value: Any, path: str = "") -> dict[str, Any]:
         """A variable of a value; `path` is the expression that has it."""
         text = json.dumps(value, separators=(",", ":"), ensure_ascii=False)
         text = text if len(text) <= SHOWN else f"{text[:SHOWN]}.."
@@ -116,7 +118,7 @@ class View:
             ], True), type="list", **more)
         return self.plain(name, text, TYPES.get(type(value), ""), **more)
 
-    def value(self, name: str, reference: int, path: str = "") -> dict:
+    def value(self, name: str, reference: int, path: str = "") -> dict[str, Any]:
         """A variable of the value at a reference."""
         try:
             text = self.child.one(f"v {reference}").split(" ", 2)[2]
@@ -129,30 +131,30 @@ class View:
         except (ValueError, RecursionError):
             return self.plain(name, f"{text[:SHOWN]}..")
 
-    def word_of(self, name: str, text: str) -> dict:
+    def word_of(self, name: str, text: str) -> dict[str, Any]:
         """A variable of a word; one that is an address can be read from."""
         more = {"memoryReference": text} if region_at(self.code, int(text, 16)) else {}
         return self.plain(name, text, "word", evaluateName=name, **more)
 
     # -- scopes
 
-    def registers(self, place: Place) -> list[dict]:
+    def registers(self, place: Place) -> list[dict[str, Any]]:
         """The registers, and where the machine is."""
         found = [self.word_of(*line.split()) for line in self.child.many("r")]
         where = [("pc", str(place.pc)), ("step", str(place.step)), ("status", place.status)]
         return [*found, *(self.plain(name, value, evaluateName=name) for name, value in where)]
 
-    def saved(self, record: str) -> list[dict]:
+    def saved(self, record: str) -> list[dict[str, Any]]:
         """The registers that an open call saved."""
         words = record.split()[2:]
         return [self.word_of(name, text) for name, text in zip(words[::2], words[1::2])]
 
-    def frames(self) -> list[dict]:
+    def frames(self) -> list[dict[str, Any]]:
         """The open local calls, the newest first."""
         depth, *records = self.child.many("f")
         found = [self.plain("depth", depth.split()[1], "int")]
         for number, record in enumerate(records):
-            node = Node(4, lambda low, high, record=record: self.saved(record)[low:high])
+            node = Node(4, functools.partial(self.part_of_saved, record))
             found.append(self.opened(f"call {number}", record, node))
         return found
 
@@ -170,7 +172,7 @@ class View:
         """Whether there is a value with this reference."""
         return self.child.ask(f"v {reference}")[0] != "? range"
 
-    def values(self) -> list[dict]:
+    def values(self) -> list[dict[str, Any]]:
         """The values of the review, and those that the program has placed."""
         count = self.placed() - FIRST_PLACED
         node = Node(count, lambda low, high: [
@@ -179,7 +181,7 @@ class View:
         roots = [self.value(name, reference, name) for reference, name in ROOTS.items()]
         return [*roots, self.opened("placed", f"{count} values", node) if count else self.plain("placed", "0 values")]
 
-    def verdict(self) -> list[dict]:
+    def verdict(self) -> list[dict[str, Any]]:
         """The words of the verdict; only a compiled policy gives them this meaning."""
         first, *rest = self.child.many("w")
         _, outcome, denials = first.split()
@@ -193,7 +195,7 @@ class View:
                 found.append(self.plain(f"validation {place}", f"{number} {TRUTHS.get(number, '')}".strip()))
         return found
 
-    def evaluated(self, place: Place) -> list[dict]:
+    def evaluated(self, place: Place) -> list[dict[str, Any]]:
         """The sub-expressions that the step before has evaluated, with their values."""
         spans = self.parts.valued(place.pc) if place.step else []
         if not spans:
@@ -202,21 +204,30 @@ class View:
         self.child.move("s 1")
         words = dict(line.split() for line in self.child.many("r"))
         return [
-            self.value(on_one_line(span.text), int(words[span.register], 16))
+            self.value(on_one_line(self.shown(span)), int(words[span.register], 16))
             for span in spans if span.holds(before) and span.register in words
         ]
 
-    def memory(self) -> list[dict]:
+    def shown(self, span: Span) -> str:
+        """The text of a sub-expression; of a whole part, as its author wrote it."""
+        is_whole = span.part is not None and (span.begin, span.end) == (0, len(span.part.text))
+        return self.parts.text_of(span) if is_whole else span.text
+
+    def memory(self) -> list[dict[str, Any]]:
         """The regions, each to be read from its first address on."""
         found = []
         for name, (first, count) in regions_of(self.code).items():
             found.append(self.plain(name, f"{count} bytes from {word(first)}", "region", memoryReference=word(first)))
         return found
 
-    def scopes(self, place: Place, record: Optional[str]) -> list[dict]:
+    def part_of_saved(self, record: str, low: int, high: int) -> list[Any]:
+        """Some of the saved words of a call."""
+        return self.saved(record)[low:high]
+
+    def scopes(self, place: Place, record: Optional[str]) -> list[dict[str, Any]]:
         """The scopes of a frame: of the newest, or of a caller's, whose call left this record."""
-        made: dict[str, Callable[[], list]] = {
-            "Registers": (lambda: self.registers(place)) if record is None else (lambda: self.saved(record)),
+        made: dict[str, Callable[[], list[Any]]] = {
+            "Registers": functools.partial(self.registers, place) if record is None else functools.partial(self.saved, record),
             "Values": self.values, "Frames": self.frames, "Verdict": self.verdict, "Memory": self.memory,
         }
         if record is None and self.parts:
@@ -225,7 +236,7 @@ class View:
         found = []
         for name, fetch in made.items():
             # the number of variables is not known before they are fetched
-            node = Node(1, lambda low, high, fetch=fetch: fetch())
+            node = Node(1, functools.partial(whole, fetch))
             found.append({
                 "name": name, "variablesReference": self.store.put(node), "expensive": name == "Memory", **hints.get(name, {}),
             })
@@ -249,3 +260,8 @@ def field_of(path: str, key: str) -> str:
     if not path or path.startswith("v "):
         return ""
     return f"{path}.{key}" if KEY.match(key) else f"{path}[{json.dumps(key)}]"
+
+
+def whole(fetch: Callable[[], list[Any]], _low: int, _high: int) -> list[Any]:
+    """What is fetched, whatever part of it is asked for."""
+    return fetch()

@@ -5,6 +5,7 @@ import shutil
 import subprocess
 import tempfile
 from pathlib import Path
+from typing import Any
 
 from ..entry import Stop
 from ..home import ROOT
@@ -29,7 +30,7 @@ def compiler() -> str:
     return needed(os.environ.get("CC", "cc"))
 
 
-def ran(words: list, folder: Path = ROOT) -> str:
+def ran(words: list[Any], folder: Path = ROOT) -> str:
     """What a command writes; it ends the script if it fails."""
     done = subprocess.run([str(word) for word in words], cwd=folder, capture_output=True, text=True, check=False)
     if done.returncode:

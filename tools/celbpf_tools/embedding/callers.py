@@ -7,7 +7,7 @@ import shutil
 import subprocess
 import sys
 from pathlib import Path
-from typing import Iterator, Optional, Tuple
+from typing import Any, Callable, Iterator, Optional, Tuple
 
 from ..home import EXAMPLES
 from .building import EMBED, FLAGS
@@ -30,7 +30,7 @@ def can_be_unlimited() -> bool:
     return resource.getrlimit(resource.RLIMIT_STACK)[1] == resource.RLIM_INFINITY
 
 
-def run(what: str, words: list, folder: Path, before=None, **names: str) -> Tuple[bool, str]:
+def run(what: str, words: list[Any], folder: Path, before: Optional[Callable[[], None]] = None, **names: str) -> Tuple[bool, str]:
     """Runs a command: whether it passed, and its last line, or all that it said."""
     done = subprocess.run(
         [str(word) for word in words], cwd=folder, env={**os.environ, **names}, stdout=subprocess.PIPE, stderr=subprocess.STDOUT,
@@ -44,7 +44,7 @@ def run(what: str, words: list, folder: Path, before=None, **names: str) -> Tupl
     return True, f"{what} passed" + (f": {counts[0]}" if counts else "")
 
 
-def flags_of(dist: Path) -> list:
+def flags_of(dist: Path) -> list[Any]:
     return ["-I", dist / "include", dist / "lib" / "libcelbpf.a", "-pthread"]
 
 
@@ -68,7 +68,7 @@ def in_c(dist: Path, work: Path, _: Optional[Path]) -> Told:
         yield run("the example as C++", [work / "example", replicas / "policy.json", replicas / "three.review.json"], work)
 
 
-def named_for_go(dist: Path, work: Path) -> dict:
+def named_for_go(dist: Path, work: Path) -> dict[str, Any]:
     """What go needs of the environment, as `named_for_python` and `named_for_rust` for theirs."""
     return {
         "PKG_CONFIG_PATH": str(dist / "lib" / "pkgconfig"), "GOCACHE": str(work / "cache"), "GOFLAGS": "-mod=mod", "GOPROXY": "off",
@@ -76,13 +76,13 @@ def named_for_go(dist: Path, work: Path) -> dict:
     }
 
 
-def named_for_python(dist: Path) -> dict:
+def named_for_python(dist: Path) -> dict[str, Any]:
     return {
         "CELBPF_LIBRARY": str(dist / "lib" / "libcelbpf.so.1"), "CELBPF_EXAMPLES": str(EXAMPLES), "PYTHONDONTWRITEBYTECODE": "1",
     }
 
 
-def named_for_rust(dist: Path, work: Path) -> dict:
+def named_for_rust(dist: Path, work: Path) -> dict[str, Any]:
     return {"CELBPF_LIB_DIR": str(dist / "lib"), "CARGO_TARGET_DIR": str(work / "target")}
 
 

@@ -6,7 +6,7 @@ import shutil
 import subprocess
 import sys
 from pathlib import Path
-from typing import Iterator
+from typing import Any, Iterator
 
 from ..entry import Stop
 from ..home import EXAMPLES
@@ -16,7 +16,7 @@ from .callers import flags_of, named_for_go, named_for_python, named_for_rust
 REPLICAS = EXAMPLES / "replicas"
 
 
-def shown(words: list, folder: Path, **names: str) -> list:
+def shown(words: list[Any], folder: Path, **names: str) -> list[Any]:
     """The lines that a command prints."""
     done = subprocess.run(
         [str(word) for word in words], cwd=folder, env={**os.environ, **names}, capture_output=True, text=True, check=False

@@ -13,7 +13,7 @@ TOO_DEEP = 255
 class Costs:
     """What has been visited so far."""
 
-    def __init__(self):
+    def __init__(self) -> None:
         self.work = 0
         self.sizes = 0
         self.deep = False

@@ -21,7 +21,7 @@ def refuse_constant(spelled: Any) -> None:
     raise ValueError(spelled)
 
 
-def read(document: bytes, number: str) -> dict:
+def read(document: bytes, number: str) -> dict[str, Any]:
     """What a document says; with this refusal where it is no JSON."""
     try:
         text = document.decode()

@@ -97,7 +97,7 @@ class Reader:
         return left
 
     def unary(self) -> Any:
-        sign = next((mark for mark in "!-" if self.is_next(mark)), None)
+        sign = next((mark for mark in "!-" if self.is_next(mark)), "")
         count = 0
         while sign and self.is_next(sign):
             self.at += 1
@@ -120,7 +120,7 @@ class Reader:
             tree = Method(tree, name, self.arguments()) if self.is_next("(") else Selection(tree, name)
         return tree
 
-    def name(self, allowed: Callable) -> str:
+    def name(self, allowed: Callable[..., Any]) -> str:
         """The name that comes next and is allowed here."""
         if self.at == len(self.tokens) or self.tokens[self.at].kind != "name":
             self.refuse()
@@ -128,7 +128,7 @@ class Reader:
             self.refuse()
         return self.next()
 
-    def arguments(self) -> tuple:
+    def arguments(self) -> tuple[Any, ...]:
         """What stands between the brackets of a call."""
         self.enter()
         found = []
@@ -164,12 +164,12 @@ class Reader:
         self.leave(OPENING[opening])
         return tree
 
-    def entry(self) -> tuple:
+    def entry(self) -> tuple[Any, ...]:
         key = self.expression()
         self.take(":")
         return key, self.expression()
 
-    def series(self, part: Callable, closing: str) -> tuple:
+    def series(self, part: Callable[..., Any], closing: str) -> tuple[Any, ...]:
         """Parts with commas between them, and perhaps one behind them, also where there is none."""
         found = []
         if not self.is_next(closing, ","):

@@ -4,9 +4,7 @@ from dataclasses import replace
 from typing import Any
 
 from .refused import Refused
-from .trees import (
-    Call, Has, ListLiteral, Macro, MapLiteral, Method, Name, Operation, Selection, Ternary, Variable,
-)
+from .trees import Call, Has, ListLiteral, Macro, MapLiteral, Method, Name, Operation, Selection, Ternary, Variable
 
 ROOTS = ["object", "oldObject", "params", "namespaceObject", "request"]
 VARIABLES = "variables"
@@ -40,7 +38,7 @@ def macro_of(method: Method) -> Macro:
     return Macro(word, target, name.name, predicate, others[-1])
 
 
-def expand_all(trees: tuple) -> tuple:
+def expand_all(trees: tuple[Any, ...]) -> tuple[Any, ...]:
     return tuple(expand(tree) for tree in trees)
 
 

@@ -3,8 +3,7 @@
 from typing import Any, Optional
 
 from . import operations
-from .trees import ListLiteral, Literal, Macro, MapLiteral, Name, Ternary, Variable
-from .trees import Call, Has, Method, Selection
+from .trees import Call, Has, ListLiteral, Literal, Macro, MapLiteral, Method, Name, Selection, Ternary, Variable
 from .values import ERROR, in_byte_order, kind
 
 
@@ -14,18 +13,18 @@ class Meaning:
     `roots` and `variables` are dicts from names to values; a variable may be the error.
     """
 
-    def __init__(self, roots: dict, variables: dict, costs: Any):
+    def __init__(self, roots: dict[str, Any], variables: dict[str, Any], costs: Any):
         self.roots = roots
         self.variables = variables
         self.costs = costs
 
-    def of(self, tree: Any, items: Optional[dict] = None) -> Any:
+    def of(self, tree: Any, items: Optional[dict[str, Any]] = None) -> Any:
         """The meaning of a tree, where `items` are the iteration names in force."""
         result = self.of_node(tree, items or {})
         self.costs.visit(result)
         return result
 
-    def of_node(self, tree: Any, items: dict) -> Any:
+    def of_node(self, tree: Any, items: dict[str, Any]) -> Any:
         if isinstance(tree, Literal):
             return self.of_literal(tree)
         if isinstance(tree, Name):
@@ -47,19 +46,19 @@ class Meaning:
             self.costs.text(literal.value)
         return literal.value
 
-    def of_ternary(self, tree: Ternary, items: dict) -> Any:
+    def of_ternary(self, tree: Ternary, items: dict[str, Any]) -> Any:
         condition = self.of(tree.condition, items)
         if kind(condition) != "bool":
             return ERROR
         return self.of(tree.chosen if condition else tree.other, items)
 
-    def of_list(self, literal: ListLiteral, items: dict) -> Any:
+    def of_list(self, literal: ListLiteral, items: dict[str, Any]) -> Any:
         found = [self.of(item, items) for item in literal.items]
         for value in found:
             self.costs.keep(value)
         return ERROR if ERROR in found else found
 
-    def of_map(self, literal: MapLiteral, items: dict) -> Any:
+    def of_map(self, literal: MapLiteral, items: dict[str, Any]) -> Any:
         entries = [(self.of(key, items), self.of(value, items)) for key, value in literal.entries]
         for _, value in entries:
             self.costs.keep(value)
@@ -67,7 +66,7 @@ class Meaning:
             return ERROR
         return dict(entries) if len(dict(entries)) == len(entries) else ERROR
 
-    def of_operands(self, tree: Any, items: dict) -> Any:
+    def of_operands(self, tree: Any, items: dict[str, Any]) -> Any:
         """The meaning of a node whose operands are all evaluated."""
         if isinstance(tree, (Selection, Has)):
             self.costs.text(tree.field)
@@ -83,7 +82,7 @@ class Meaning:
         signs = operations.UNARY if len(operands) == 1 else operations.BINARY
         return signs[tree.sign](*operands)
 
-    def of_macro(self, macro: Macro, items: dict) -> Any:
+    def of_macro(self, macro: Macro, items: dict[str, Any]) -> Any:
         values = self.of(macro.range, items)
         if kind(values) not in ("list", "map"):
             return ERROR
@@ -92,7 +91,7 @@ class Meaning:
         turns = [self.turn(macro, items, value) for value in values]
         return operations.MACROS[macro.word](turns)
 
-    def turn(self, macro: Macro, items: dict, value: Any) -> tuple:
+    def turn(self, macro: Macro, items: dict[str, Any], value: Any) -> tuple[Any, ...]:
         """What the predicate is for an item, and what is kept of it."""
         self.costs.turn()
         inner = {**items, macro.name: value}

@@ -33,20 +33,20 @@ def need(tree: Any) -> int:
     return max([needs[0], *(1 + one for one in needs[1:])])
 
 
-def depth(tree: Any, depths: dict) -> int:
+def depth(tree: Any, depths: dict[str, Any]) -> int:
     """How deep a variable of this expression stands, over those that it names."""
     return 1 + deepest(tree, depths)
 
 
-def deepest(tree: Any, depths: dict) -> int:
+def deepest(tree: Any, depths: dict[str, Any]) -> int:
     if isinstance(tree, Variable):
         return depths[tree.name]
     return max((deepest(part, depths) for part in parts(tree)), default=0)
 
 
-def constants(tree: Any) -> set:
+def constants(tree: Any) -> set[Any]:
     """The texts that its code has to hold: field names and text literals."""
-    found = set()
+    found: set[Any] = set()
     if isinstance(tree, (Selection, Has)):
         found.add(tree.field)
     if isinstance(tree, Literal) and kind(tree.value) == "text":
@@ -54,6 +54,6 @@ def constants(tree: Any) -> set:
     return found.union(*(constants(part) for part in parts(tree)))
 
 
-def bytes_of(texts: set) -> int:
+def bytes_of(texts: set[Any]) -> int:
     """The bytes of texts together."""
     return sum(length(text) for text in texts)

@@ -130,7 +130,7 @@ BINARY = {
     "in": member,
     "[]": index,
 }
-CALLS = {"size": count, "string": string, "dyn": lambda value: value}
+CALLS: dict[str, Any] = {"size": count, "string": string, "dyn": lambda value: value}
 METHODS = {
     "size": count,
     "startsWith": over("text", str.startswith),
@@ -139,7 +139,7 @@ METHODS = {
 }
 
 
-def every(turns: list) -> Any:
+def every(turns: list[Any]) -> Any:
     """False if any is, even beside the error; true over none."""
     truths = [truth for truth, _ in turns]
     if any(truth is False for truth in truths):
@@ -147,7 +147,7 @@ def every(turns: list) -> Any:
     return True if all(truth is True for truth in truths) else ERROR
 
 
-def some(turns: list) -> Any:
+def some(turns: list[Any]) -> Any:
     """True if any is, even beside the error; false over none."""
     truths = [truth for truth, _ in turns]
     if any(truth is True for truth in truths):
@@ -162,7 +162,7 @@ def exactly_one(turns: Any) -> Any:
     return truths.count(True) == 1
 
 
-def kept(turns: list) -> Any:
+def kept(turns: list[Any]) -> Any:
     """What is kept of the items whose predicate is true; the error if any part is, or is no bool."""
     if any(kind(truth) != "bool" for truth, _ in turns):
         return ERROR

@@ -41,9 +41,9 @@ class Policy:
     """A policy as its document says it; names and validations as they stand there."""
 
     ignores: bool
-    variables: list
-    conditions: list
-    validations: list
+    variables: list[Any]
+    conditions: list[Any]
+    validations: list[Any]
 
 
 @dataclass
@@ -51,10 +51,10 @@ class Compiled:
     """A policy that is accepted, with the trees of its expressions; a message's may be None."""
 
     policy: Policy
-    variables: dict = field(default_factory=dict)
-    conditions: list = field(default_factory=list)
-    validations: list = field(default_factory=list)
-    messages: list = field(default_factory=list)
+    variables: dict[str, Any] = field(default_factory=dict)
+    conditions: list[Any] = field(default_factory=list)
+    validations: list[Any] = field(default_factory=list)
+    messages: list[Any] = field(default_factory=list)
 
 
 def demand(condition: Any, number: str) -> None:
@@ -62,7 +62,7 @@ def demand(condition: Any, number: str) -> None:
         raise Refused(number)
 
 
-def has_form(value: dict, keys: dict) -> bool:
+def has_form(value: dict[str, Any], keys: dict[str, Any]) -> bool:
     """Whether an object has only these keys, those that have to stand, and their types."""
     if not isinstance(value, dict) or not value.keys() <= keys.keys():
         return False
@@ -72,7 +72,7 @@ def has_form(value: dict, keys: dict) -> bool:
     )
 
 
-def names_allowed(named: list, allowed: Any) -> bool:
+def names_allowed(named: list[Any], allowed: Any) -> bool:
     """Whether every name is allowed, and none stands twice."""
     names = [one["name"] for one in named]
     return all(map(allowed, names)) and len(set(names)) == len(names)
@@ -84,7 +84,7 @@ def is_identifier(name: str) -> bool:
     return spelled is not None and grammar.is_identifier(name)
 
 
-def spec_allowed(spec: dict) -> bool:
+def spec_allowed(spec: dict[str, Any]) -> bool:
     """Whether a specification is one that a policy may have."""
     if not has_form(spec, SPEC) or spec.get("failurePolicy", "Fail") not in ("Fail", "Ignore"):
         return False
@@ -119,13 +119,13 @@ def of_value(whole: Any) -> Policy:
 class Compiler:
     """The expressions of a policy as they are taken, one by one."""
 
-    def __init__(self):
-        self.types = {}
-        self.depths = {}
+    def __init__(self) -> None:
+        self.types: dict[str, Any] = {}
+        self.depths: dict[str, Any] = {}
         self.nodes = 1
-        self.constants = set()
+        self.constants: set[Any] = set()
 
-    def take(self, part: str, place: int, text: str, scope: dict) -> tuple:
+    def take(self, part: str, place: int, text: str, scope: dict[str, Any]) -> tuple[Any, ...]:
         """The tree and type of the next part."""
         try:
             tree = macros.expand(grammar.read(text))
@@ -139,18 +139,18 @@ class Compiler:
         self.constants |= measures.constants(tree)
         return tree, given
 
-    def variable(self, place: int, named: dict) -> Any:
+    def variable(self, place: int, named: dict[str, Any]) -> Any:
         tree, given = self.take("variable", place, named["expression"], self.types)
         self.types[named["name"]] = given
         self.depths[named["name"]] = measures.depth(tree, self.depths)
         return tree
 
-    def truth(self, part: str, place: int, text: str, scope: dict) -> Any:
+    def truth(self, part: str, place: int, text: str, scope: dict[str, Any]) -> Any:
         tree, given = self.take(part, place, text, scope)
         demand(given in ("Bool", "Dyn"), "K7")
         return tree
 
-    def message(self, place: int, validation: dict) -> Any:
+    def message(self, place: int, validation: dict[str, Any]) -> Any:
         if "messageExpression" not in validation:
             return None
         tree, given = self.take("message", place, validation["messageExpression"], self.types)

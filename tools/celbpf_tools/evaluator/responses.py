@@ -21,7 +21,7 @@ def is_shown(text: str) -> bool:
     return text.strip(" ") != "" and "\n" not in text and "\r" not in text
 
 
-def message_of(validation: dict, value: Optional[str]) -> str:
+def message_of(validation: dict[str, Any], value: Optional[str]) -> str:
     """The message of a denial, whose message expression gave this value."""
     text = message_text(value)
     if text is not None and is_shown(text):

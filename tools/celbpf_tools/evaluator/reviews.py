@@ -1,7 +1,7 @@
 """A review, and the five roots that it gives with the documents beside it."""
 
 from dataclasses import dataclass
-from typing import Optional
+from typing import Any, Optional
 
 from . import documents
 from .costs import MOST_CHARGE
@@ -20,11 +20,11 @@ class Review:
     """The uid of a request, the roots by name, and what they are charged."""
 
     uid: str
-    roots: dict
+    roots: dict[str, Any]
     charge: int
 
 
-def has_form(review: dict) -> bool:
+def has_form(review: dict[str, Any]) -> bool:
     """Whether a document is a review with a request that has a uid."""
     if not isinstance(review, dict) or review.get("apiVersion") != API_VERSION or review.get("kind") != KIND:
         return False
@@ -37,10 +37,9 @@ def read(review: bytes, namespace: Optional[bytes], params: Optional[bytes]) -> 
     document = documents.read(review, "N2")
     if not has_form(document):
         raise Refused("N2")
-    namespace = documents.read(namespace, "N3") if namespace is not None else None
-    params = documents.read(params, "N3") if params is not None else None
+    beside = [None if one is None else documents.read(one, "N3") for one in (params, namespace)]
     request = dict(document["request"])
-    given = [request.pop("object", None), request.pop("oldObject", None), params, namespace, request]
+    given = [request.pop("object", None), request.pop("oldObject", None), *beside, request]
     for value, refusal in zip(given, REFUSALS):
         if not isinstance(value, (dict, type(None))) or documents.has_other_number(value):
             raise Refused(refusal)

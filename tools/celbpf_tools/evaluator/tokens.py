@@ -2,7 +2,7 @@
 
 import re
 from dataclasses import dataclass
-from typing import Optional
+from typing import Any, NoReturn, Optional
 
 from .refused import Refused
 from .values import GREATEST, LEAST
@@ -24,7 +24,7 @@ class Token:
 
     place: int
     kind: str
-    value: object
+    value: Any
 
 
 class Tokens:
@@ -33,18 +33,23 @@ class Tokens:
     def __init__(self, text: str):
         self.text = text
         self.at = 0
-        self.found = []
+        self.found: list[Token] = []
 
     def place(self, at: int) -> int:
         """The byte at which this character begins."""
         return len(self.text[:at].encode())
 
-    def refuse(self, number: str, at: int) -> None:
+    def refuse(self, number: str, at: int) -> NoReturn:
         raise Refused(f"{number} at {self.place(at)}")
+
+    def after_gap(self, at: int) -> int:
+        """The place after blanks and comments."""
+        gap = GAP.match(self.text, at)
+        return gap.end() if gap else at
 
     def skip_gap(self) -> None:
         """Goes over blanks and comments."""
-        self.at = GAP.match(self.text, self.at).end()
+        self.at = self.after_gap(self.at)
 
     def sign_can_stand(self) -> bool:
         """Whether no operand ends before this place."""
@@ -59,8 +64,8 @@ class Tokens:
         """Where the digits stand that the sign here belongs to, or None."""
         if self.text[self.at] != "-" or not self.sign_can_stand():
             return None
-        behind = GAP.match(self.text, self.at + 1).end()
-        return INT.match(self.text, behind) and behind
+        behind = self.after_gap(self.at + 1)
+        return behind if INT.match(self.text, behind) else None
 
     def kind_here(self) -> str:
         """Which kind of token begins here; one that cannot be, or too many, is refused."""
@@ -74,15 +79,15 @@ class Tokens:
             self.refuse("P6", self.at)
         return "signed" if signed is not None else kind
 
-    def int_at(self, digits: int, sign: int) -> tuple:
+    def int_at(self, digits: int, sign: int) -> tuple[Any, ...]:
         """The int whose digits stand there, and where they end."""
-        spelled = INT.match(self.text, digits).group()
+        spelled = spelled_at(INT, self.text, digits)
         number = sign * (int(spelled[2:], 16) if spelled.startswith("0x") else int(spelled))
         if not LEAST <= number <= GREATEST:
             self.refuse("P3", digits)
         return number, digits + len(spelled)
 
-    def escape(self, begins: int, at: int) -> tuple:
+    def escape(self, begins: int, at: int) -> tuple[Any, ...]:
         """The character of the escape behind a backslash, and where it ends."""
         if self.text[at : at + 1] in SIMPLE:
             return SIMPLE[self.text[at]], at + 1
@@ -95,10 +100,10 @@ class Tokens:
             self.refuse("P2", begins)
         return chr(number), spelled.end()
 
-    def text_here(self) -> tuple:
+    def text_here(self) -> tuple[Any, ...]:
         """What the text literal here says, and where it ends."""
         begins = self.at
-        opening = QUOTE.match(self.text, begins).group()
+        opening = spelled_at(QUOTE, self.text, begins)
         raw, quote = len(opening) == 2, opening[-1]
         at, said = begins + len(opening), []
         while self.text[at : at + 1] != quote:
@@ -112,21 +117,27 @@ class Tokens:
 
     def take(self) -> None:
         """Takes the token that begins here."""
-        begins, kind = self.at, self.kind_here()
+        begins, kind, value = self.at, self.kind_here(), None
         if kind == "text":
             value, self.at = self.text_here()
         elif kind == "int":
             value, self.at = self.int_at(begins, 1)
         elif kind == "signed":
-            value, self.at = self.int_at(self.signed_digits(), -1)
+            value, self.at = self.int_at(self.signed_digits() or begins, -1)
         else:
-            spelled = (NAME if kind == "name" else MARK).match(self.text, begins)
-            value, self.at = spelled.group(), spelled.end()
+            value = spelled_at(NAME if kind == "name" else MARK, self.text, begins)
+            self.at = begins + len(value)
         kind = "int" if kind == "signed" else kind
         self.found.append(Token(self.place(begins), kind, value))
 
 
-def tokens(text: str) -> list:
+def spelled_at(form: re.Pattern[str], text: str, at: int) -> str:
+    """What is spelled in a form at a place, or an empty text."""
+    found = form.match(text, at)
+    return found[0] if found else ""
+
+
+def tokens(text: str) -> list[Token]:
     """The tokens of a text, or the first of P6, P1, P2 and P3."""
     if len(text.encode()) > MOST_BYTES:
         raise Refused(f"P6 at {MOST_BYTES}")

@@ -8,7 +8,7 @@ from typing import Any
 class Literal:
     """An int, a text, `true`, `false` or `null`."""
 
-    value: object
+    value: Any
 
 
 @dataclass(frozen=True)
@@ -31,7 +31,7 @@ class Call:
     """`function(a, b)`"""
 
     function: str
-    arguments: tuple
+    arguments: tuple[Any, ...]
 
 
 @dataclass(frozen=True)
@@ -40,7 +40,7 @@ class Method:
 
     target: object
     method: str
-    arguments: tuple
+    arguments: tuple[Any, ...]
 
 
 @dataclass(frozen=True)
@@ -48,7 +48,7 @@ class Operation:
     """An operator before one operand or between two; `[]` is the index."""
 
     sign: str
-    operands: tuple
+    operands: tuple[Any, ...]
 
 
 @dataclass(frozen=True)
@@ -64,14 +64,14 @@ class Ternary:
 class ListLiteral:
     """`[a, b]`"""
 
-    items: tuple
+    items: tuple[Any, ...]
 
 
 @dataclass(frozen=True)
 class MapLiteral:
     """`{k: v}`, as pairs of a key and a value."""
 
-    entries: tuple
+    entries: tuple[Any, ...]
 
 
 @dataclass(frozen=True)
@@ -100,7 +100,7 @@ class Macro:
     transform: object
 
 
-def parts(tree: Any) -> list:
+def parts(tree: Any) -> list[Any]:
     """The parts of a node, from left to right; those of a macro without its iteration name."""
     if isinstance(tree, (Selection, Has)):
         return [tree.operand]

@@ -8,8 +8,7 @@ from typing import Any, NoReturn
 
 from .macros import ROOTS, VARIABLES
 from .refused import Refused
-from .trees import Has, ListLiteral, Literal, Macro, MapLiteral, Name, Selection, Ternary, Variable, parts
-from .trees import Call, Method
+from .trees import Call, Has, ListLiteral, Literal, Macro, MapLiteral, Method, Name, Selection, Ternary, Variable, parts
 from .values import kind
 
 LITERALS = {"null": "Null", "bool": "Bool", "int": "Int", "text": "String"}
@@ -31,7 +30,7 @@ def want(condition: bool, given: str) -> str:
     return given if condition else no_type()
 
 
-def common(types: tuple, given: list) -> str:
+def common(types: tuple[Any, ...], given: list[Any]) -> str:
     """The type that several share, one that is Dyn aside; it has to be one of these."""
     known = {one for one in given if one != "Dyn"}
     if len(known) > 1 or not known <= set(types):
@@ -48,7 +47,7 @@ def of_membership(item: str, container: str) -> str:
     return want(is_one_of(container, "List") or container == "Map" and is_one_of(item, "String"), "Bool")
 
 
-def of_operation(sign: str, given: list) -> str:
+def of_operation(sign: str, given: list[Any]) -> str:
     """The type of an operator on operands of these types."""
     if sign == "[]":
         return of_index(*given)
@@ -66,7 +65,7 @@ def of_operation(sign: str, given: list) -> str:
     return want(all(is_one_of(one, "Int") for one in given), "Int")
 
 
-def of_call(function: str, given: list) -> str:
+def of_call(function: str, given: list[Any]) -> str:
     """The type of a call of a function on arguments of these types."""
     if len(given) != 1 or function not in ("size", "string", "dyn"):
         no_type()
@@ -77,7 +76,7 @@ def of_call(function: str, given: list) -> str:
     return want(is_one_of(given[0], "Int", "String"), "String")
 
 
-def of_method(method: str, given: list) -> str:
+def of_method(method: str, given: list[Any]) -> str:
     """The type of a call of a method on a target and arguments of these types."""
     if method == "size" and len(given) == 1:
         return want(is_one_of(given[0], *SIZED), "Int")
@@ -94,7 +93,7 @@ def of_ternary(condition: str, chosen: str, other: str) -> str:
     return want("Dyn" in (chosen, other), "Dyn")
 
 
-def of_macro(macro: Macro, given: list) -> str:
+def of_macro(macro: Macro, given: list[Any]) -> str:
     """The type of a macro whose range and predicate, where there is one, begin these types."""
     fits = is_one_of(given[0], "List", "Map")
     if macro.predicate is not None:
@@ -102,7 +101,7 @@ def of_macro(macro: Macro, given: list) -> str:
     return want(fits, "List" if macro.word in ("map", "filter") else "Bool")
 
 
-def of_leaf(tree: Any, scope: dict, names: frozenset) -> str:
+def of_leaf(tree: Any, scope: dict[str, Any], names: frozenset[Any]) -> str:
     """The type of a node without parts."""
     if isinstance(tree, Literal):
         return LITERALS[kind(tree.value)]
@@ -119,7 +118,7 @@ def refuse_variable() -> NoReturn:
     raise Refused("Y3")
 
 
-def of_parts(tree: Any, scope: dict, names: frozenset) -> list:
+def of_parts(tree: Any, scope: dict[str, Any], names: frozenset[Any]) -> list[Any]:
     """The types of the parts of a node, from the left."""
     found = []
     for place, part in enumerate(parts(tree)):
@@ -128,7 +127,7 @@ def of_parts(tree: Any, scope: dict, names: frozenset) -> list:
     return found
 
 
-def check(tree: Any, scope: dict, names: frozenset = frozenset()) -> str:
+def check(tree: Any, scope: dict[str, Any], names: frozenset[Any] = frozenset()) -> str:
     """The type of a tree in a scope, or the first of Y1 to Y3: parts before their node, from the left."""
     if isinstance(tree, (Literal, Name, Variable)):
         return of_leaf(tree, scope, names)

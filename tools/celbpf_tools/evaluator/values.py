@@ -23,7 +23,7 @@ def kind(value: Any) -> str:
     return KINDS[type(value)]
 
 
-def kinds(*values: Any) -> tuple:
+def kinds(*values: Any) -> tuple[Any, ...]:
     """The words for the kinds of several."""
     return tuple(kind(value) for value in values)
 
@@ -68,6 +68,6 @@ def depth(value: Any) -> int:
     return 0
 
 
-def in_byte_order(keys: dict) -> list:
+def in_byte_order(keys: dict[str, Any]) -> list[Any]:
     """Keys in the order of their bytes in UTF-8."""
     return sorted(keys, key=str.encode)

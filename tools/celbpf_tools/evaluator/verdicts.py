@@ -20,8 +20,8 @@ class Verdict:
 
     costs: Costs
     outcome: int = ADMITTED
-    results: list = field(default_factory=list)
-    denials: list = field(default_factory=list)
+    results: list[Any] = field(default_factory=list)
+    denials: list[Any] = field(default_factory=list)
 
 
 def result_of(value: Any) -> int:
@@ -34,7 +34,7 @@ def result_of(value: Any) -> int:
 class Deciding:
     """A compiled policy over the roots of a review."""
 
-    def __init__(self, compiled: Any, roots: dict):
+    def __init__(self, compiled: Any, roots: dict[str, Any]):
         self.compiled = compiled
         self.ignores = compiled.policy.ignores
         self.costs = Costs()
@@ -46,7 +46,7 @@ class Deciding:
         self.costs.turn()
         return self.meaning.of(tree)
 
-    def gate(self, conditions: list) -> Optional[int]:
+    def gate(self, conditions: list[Any]) -> Optional[int]:
         """The outcome that conditions give, or None where the policy runs."""
         if FALSE in conditions:
             return SKIPPED
@@ -54,7 +54,7 @@ class Deciding:
             return SKIPPED if self.ignores else REJECTED
         return None
 
-    def denials(self, results: list) -> list:
+    def denials(self, results: list[Any]) -> list[Any]:
         """The places of the validations that deny, with the values of their messages."""
         denying = (FALSE,) if self.ignores else (FALSE, NO_BOOL)
         found = []
@@ -76,11 +76,11 @@ class Deciding:
         return Verdict(self.costs, DENIED if denials else ADMITTED, results, denials)
 
 
-def verdict_of(compiled: Any, roots: dict) -> Verdict:
+def verdict_of(compiled: Any, roots: dict[str, Any]) -> Verdict:
     """The verdict of a policy over these roots."""
     return Deciding(compiled, roots).verdict()
 
 
-def message_text(value: Optional[str]) -> Optional[str]:
+def message_text(value: Any) -> Optional[str]:
     """The text that a message expression gave, or None."""
     return value if value is not ERROR and kind(value) == "text" else None

@@ -29,7 +29,7 @@ class Answer:
 
     refusal: str = ""
     uid: str = ""
-    roots: tuple = ()
+    roots: tuple[Any, ...] = ()
 
     def lines(self) -> str:
         """What a session says of `v 4` to `v 8`."""
@@ -38,8 +38,8 @@ class Answer:
     def response(self) -> str:
         """What `review` prints."""
         texts = [text for text, a, b in (("one", 0, 1), ("two", 2, 3)) if self.roots[a] == self.roots[b]]
-        denied = {"allowed": False, "status": {"code": 422, "message": "; ".join(texts), "reason": "Invalid"}}
-        said = {**(denied if texts else {"allowed": True}), "uid": self.uid}
+        denied: dict[str, Any] = {"allowed": False, "status": {"code": 422, "message": "; ".join(texts), "reason": "Invalid"}}
+        said: dict[str, Any] = {**(denied if texts else {"allowed": True}), "uid": self.uid}
         head = {"apiVersion": "admission.k8s.io/v1", "kind": "AdmissionReview"}
         return written({**head, "response": said}) + "\n"
 

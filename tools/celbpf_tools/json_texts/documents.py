@@ -60,7 +60,7 @@ class Documents(Values):
             members.append((self.key(), self.part(1)))
         return self.space() + self.map_of(self.shuffled(members)) + self.space()
 
-    def shuffled(self, members: list) -> list:
+    def shuffled(self, members: list[Any]) -> list[Any]:
         """The members, half of the time in another order."""
         if self.numbers.one_in(2):
             return members
@@ -69,7 +69,7 @@ class Documents(Values):
             drawn.append(left.pop(self.numbers.below(len(left))))
         return drawn
 
-    def field(self, key: bytes, good: bytes, others: list) -> list:
+    def field(self, key: bytes, good: bytes, others: list[Any]) -> list[Any]:
         """A member that is to have one value: mostly with it, now and then another, none, or two."""
         kind = self.numbers.below(160)
         if kind == 0:
@@ -84,7 +84,7 @@ class Documents(Values):
             return [(key[:1] + b"\\u%04x" % key[1] + key[2:], good)]
         return [(key, good)]
 
-    def requests(self) -> list:
+    def requests(self) -> list[Any]:
         kind, key = self.numbers.below(80), b'"request"'
         if kind == 0:
             return []
@@ -147,7 +147,7 @@ class Documents(Values):
         return document[:place] + document[place:place + 9] + document[place:]
 
 
-def cases(numbers: Any) -> Iterator:
+def cases(numbers: Any) -> Iterator[Any]:
     """Cases without end. Of two one has no fault of its pieces, the other one of each kind in turn."""
     while True:
         for fault in [*FAULTS, "number", "other", "character"]:

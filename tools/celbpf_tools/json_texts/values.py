@@ -1,5 +1,7 @@
 """Values, as bytes of JSON."""
 
+from typing import Any
+
 from .pieces import Pieces
 
 # keys that are often repeated, with several spellings of one
@@ -33,7 +35,7 @@ class Values(Pieces):
     def key(self) -> bytes:
         return self.text() if self.numbers.one_in(4) else self.numbers.pick(KEYS)
 
-    def map_of(self, members: list) -> bytes:
+    def map_of(self, members: list[Any]) -> bytes:
         """A map of these keys and values, in this order."""
         return self.closed(b"{", [self.member(*pair) for pair in members], b"}")
 
@@ -41,7 +43,7 @@ class Values(Pieces):
         colon = self.numbers.pick([b"", b"::", b"=", b",", b" :: "]) if self.spoils("colon") else b":"
         return self.space() + key + self.space() + colon + value
 
-    def closed(self, first: bytes, parts: list, last: bytes) -> bytes:
+    def closed(self, first: bytes, parts: list[Any], last: bytes) -> bytes:
         """A list or map of these parts, now and then with a comma or a bracket too many or too few."""
         comma = b","
         if self.spoils("closed"):

@@ -80,7 +80,7 @@ class Resource:
     namespaced: bool
 
 
-def group_version(api_version: str) -> tuple:
+def group_version(api_version: str) -> tuple[str, str]:
     """Group, which is empty for the core one, and version."""
     group, _, version = api_version.rpartition("/")
     return group, version
@@ -94,9 +94,9 @@ def built_in() -> Iterator[Resource]:
             yield Resource("" if group == "core" else group, version, kind, plural, scope == "Namespaced")
 
 
-def served(definition: dict) -> Iterator[Resource]:
+def served(definition: dict[str, Any]) -> Iterator[Resource]:
     """The resources of a CustomResourceDefinition, none if it is not whole."""
-    spec = definition.get("spec")
+    spec: Any = definition.get("spec")
     try:
         names, scope = spec["names"], spec["scope"]
         for version in spec["versions"]:
@@ -110,20 +110,20 @@ class Resources:
     """Resources by group, version and kind."""
 
     def __init__(self) -> None:
-        self.known: dict = {}
+        self.known: dict[tuple[str, str, str], Resource] = {}
         self.add(built_in())
 
     def add(self, resources: Iterator[Resource]) -> None:
         for one in resources:
             self.known[one.group, one.version, one.kind] = one
 
-    def define(self, things: list) -> None:
+    def define(self, things: list[Any]) -> None:
         """Takes the definitions among objects."""
         for thing in things:
             if (group_version(thing["apiVersion"])[0], thing["kind"]) == DEFINITION:
                 self.add(served(thing))
 
-    def of(self, thing: dict) -> Optional[Resource]:
+    def of(self, thing: dict[str, Any]) -> Optional[Resource]:
         """The resource of an object, or None if its kind is not known."""
         return self.known.get((*group_version(thing["apiVersion"]), thing["kind"]))
 

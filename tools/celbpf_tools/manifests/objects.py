@@ -11,7 +11,7 @@ class NoObject(Exception):
     """A document, or an item of a list, that is not an object of a cluster."""
 
 
-def checked(value: Any, where: str) -> dict:
+def checked(value: Any, where: str) -> dict[str, Any]:
     """An object with `apiVersion`, `kind` and `metadata`."""
     if not isinstance(value, dict):
         raise NoObject(f"{where} is not an object")
@@ -23,7 +23,7 @@ def checked(value: Any, where: str) -> dict:
     return value
 
 
-def flattened(value: Any, where: str) -> Iterator[dict]:
+def flattened(value: Any, where: str) -> Iterator[dict[str, Any]]:
     """The objects of a document, which may be a list of a kind that its items do not repeat."""
     is_list = isinstance(value, dict) and str(value.get("kind", "")).endswith("List") and isinstance(value.get("items"), list)
     if not is_list:
@@ -35,10 +35,10 @@ def flattened(value: Any, where: str) -> Iterator[dict]:
         yield from flattened(named, f"{where}, item {place}")
 
 
-def objects_in(file: str) -> list:
+def objects_in(file: str) -> list[Any]:
     """The objects of a file, or of standard input if it is `-`."""
     path = STDIN if file == "-" else file
-    found = []
+    found: list[Any] = []
     for place, document in enumerate(all_in(path)):
         found += flattened(document, f"{file}: document {place}")
     return found

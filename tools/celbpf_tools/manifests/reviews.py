@@ -13,7 +13,7 @@ class Converted(Exception):
     """The old object is of another version, so that an API server would convert it."""
 
 
-def placed(thing: dict, resource: Resource, namespace: str) -> dict:
+def placed(thing: dict[str, Any], resource: Resource, namespace: str) -> dict[str, Any]:
     """An object in its namespace, by default this one; without one if its kind has none."""
     metadata = {key: value for key, value in thing["metadata"].items() if key != "namespace"}
     if resource.namespaced:
@@ -21,12 +21,12 @@ def placed(thing: dict, resource: Resource, namespace: str) -> dict:
     return object_sent({**thing, "metadata": metadata})
 
 
-def name_of(thing: dict) -> str:
+def name_of(thing: dict[str, Any]) -> str:
     """The name of an object, empty if it is yet to be generated."""
     return thing["metadata"].get("name") or ""
 
 
-def namespace_of(thing: dict, resource: Resource) -> str:
+def namespace_of(thing: dict[str, Any], resource: Resource) -> str:
     """The namespace of a request, which for a Namespace is its own name."""
     if (resource.group, resource.plural) == ("", "namespaces"):
         return name_of(thing)
@@ -37,15 +37,15 @@ class OldObjects:
     """What was there before, by group, kind, namespace and name."""
 
     def __init__(self) -> None:
-        self.found: dict = {}
+        self.found: dict[tuple[str, ...], dict[str, Any]] = {}
 
-    def key(self, thing: dict, resource: Resource) -> tuple:
+    def key(self, thing: dict[str, Any], resource: Resource) -> tuple[str, ...]:
         return resource.group, resource.kind, namespace_of(thing, resource), name_of(thing)
 
-    def add(self, thing: dict, resource: Resource) -> None:
+    def add(self, thing: dict[str, Any], resource: Resource) -> None:
         self.found[self.key(thing, resource)] = thing
 
-    def of(self, thing: dict, resource: Resource) -> Optional[dict]:
+    def of(self, thing: dict[str, Any], resource: Resource) -> Optional[dict[str, Any]]:
         """The old object of an object, if there is one."""
         old = self.found.get(self.key(thing, resource)) if name_of(thing) else None
         if old is not None and old["apiVersion"] != thing["apiVersion"]:
@@ -53,7 +53,7 @@ class OldObjects:
         return old
 
 
-def request_of(thing: dict, resource: Resource, old: Optional[dict], uid: str) -> dict:
+def request_of(thing: dict[str, Any], resource: Resource, old: Optional[dict[str, Any]], uid: str) -> dict[str, Any]:
     """The request that creates an object, or that updates an old one."""
     operation = "CREATE" if old is None else "UPDATE"
     kind = {"group": resource.group, "version": resource.version, "kind": resource.kind}
@@ -66,7 +66,7 @@ def request_of(thing: dict, resource: Resource, old: Optional[dict], uid: str) -
     return made
 
 
-def review_of(request: dict, user: Optional[str], groups: list) -> dict:
+def review_of(request: dict[str, Any], user: Optional[str], groups: list[Any]) -> dict[str, Any]:
     """A review of a request, by a user of groups if one is given."""
     if user is not None:
         request = {**request, "userInfo": user_info(user, groups)}

@@ -7,4 +7,5 @@
     tree             the files of a package
     archives         a Debian package, and a tar archive
     checking         what is checked of a package once it is installed
+    rooted           a package in the root of a Debian system
 """

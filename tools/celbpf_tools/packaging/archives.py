@@ -8,6 +8,7 @@ import shutil
 import subprocess
 import tarfile
 from pathlib import Path
+from typing import Any
 
 from ..entry import Stop
 from ..home import ROOT
@@ -55,7 +56,7 @@ def arch_of() -> str:
     return ARCHES.get(machine, machine)
 
 
-def libc_of(files: list) -> str:
+def libc_of(files: list[Any]) -> str:
     """What of the C library programs and libraries need, as a dependency."""
     least = max((int(minor) for path in files for minor in GLIBC.findall(path.read_bytes())), default=0)
     return f"libc6 (>= 2.{least})" if least else "libc6"
@@ -74,8 +75,8 @@ def size_of(folder: Path) -> int:
     return sum(-(-path.lstat().st_size // 1024) for path in folder.rglob("*") if not path.is_dir())
 
 
-def deb(root: Path, version: str, target: Path) -> None:
-    """The Debian package of a tree whose `usr` is planted."""
+def deb(root: Path, version: str, epoch: int, target: Path) -> None:
+    """The Debian package of a tree whose `usr` is planted; its files have the time `epoch`."""
     if not shutil.which("dpkg-deb"):
         raise Stop("there is no command dpkg-deb; --tar makes the tar archive alone", 10)
     control = root / "DEBIAN"
@@ -88,9 +89,9 @@ def deb(root: Path, version: str, target: Path) -> None:
     written(control / "control", text)
     for folder in (root, control):
         folder.chmod(0o755)
-    dated(root)
+    dated(root, epoch)
     # xz by several threads packs other bytes than by one
-    environment = {**os.environ, "SOURCE_DATE_EPOCH": str(epoch_of()), "DPKG_DEB_THREADS_MAX": "1"}
+    environment = {**os.environ, "SOURCE_DATE_EPOCH": str(epoch), "DPKG_DEB_THREADS_MAX": "1"}
     words = ["dpkg-deb", "--root-owner-group", "-Zxz", "--build", str(root), str(target)]
     ran = subprocess.run(words, env=environment, capture_output=True, text=True, check=False)
     if ran.returncode:
@@ -103,19 +104,19 @@ def written(path: Path, text: str) -> None:
     path.chmod(0o644)
 
 
-def dated(root: Path) -> None:
+def dated(root: Path, epoch: int) -> None:
     """Gives all files one time."""
     for path in [root, *root.rglob("*")]:
-        os.utime(path, (epoch_of(), epoch_of()), follow_symlinks=False)
+        os.utime(path, (epoch, epoch), follow_symlinks=False)
 
 
-def tar(prefix: Path, name: str, target: Path) -> None:
-    """A tar archive of a prefix, under a folder of this name."""
+def tar(prefix: Path, name: str, epoch: int, target: Path) -> None:
+    """A tar archive of a prefix, under a folder of this name; its files have the time `epoch`."""
 
     def plain(member: tarfile.TarInfo) -> tarfile.TarInfo:
         member.uid = member.gid = 0
         member.uname = member.gname = "root"
-        member.mtime = epoch_of()
+        member.mtime = epoch
         return member
 
     packed = io.BytesIO()

@@ -4,12 +4,12 @@ import gzip
 import json
 import os
 import re
-import shutil
 import subprocess
 from pathlib import Path
 from typing import Any, Iterator
 
 from ..embedding.callers import missing
+from .completion import NAMES
 
 BASH = """source "$1/share/bash-completion/completions/celbpf"
 COMP_WORDS=(celbpf re) COMP_CWORD=1
@@ -61,7 +61,9 @@ fn main() {
 }
 """
 # what a page of a package must not have: files of the repository, and commands of the toolchain
-OF_REPOSITORY = re.compile(r"(?<!\w)tools/\w|(?<![\w.])\./|^ {4}rt\b|\b[Ii]n this repository\b|\bdist/|\bclone\b")
+OF_REPOSITORY = re.compile(
+    r"(?<!\w)tools/\w|(?<![\w.])\./|^ {4}rt\b|\b[Ii]n this repository\b|\bdist/|\bclone\b|\bPREFIX\b"
+)
 LINK = re.compile(r"\]\(([^)#\s]*)(?:#([^)\s]*))?\)")
 
 
@@ -78,13 +80,13 @@ class Checks:
             self.wrong += 1
             print(f"{what}\nfound: {found}", flush=True)
 
-    def run(self, words: list, status: int, wanted: str, asked: str = "", **more: Any) -> None:
+    def run(self, words: list[Any], status: int, wanted: str, asked: str = "", **more: Any) -> None:
         """A run in the folder, whose output begins so, or is so if it ends with a line feed."""
         ran = self.ran(words, asked, **more)
         fits = ran.stdout == wanted if wanted.endswith("\n") else ran.stdout.startswith(wanted)
         self.tell(" ".join(map(str, words)), ran.returncode == status and fits, f"{ran.stdout}{ran.stderr}[{ran.returncode}]")
 
-    def ran(self, words: list, asked: str = "", **more: Any) -> subprocess.CompletedProcess:
+    def ran(self, words: list[Any], asked: str = "", **more: Any) -> subprocess.CompletedProcess[str]:
         environment = {**os.environ, "LC_ALL": "C.UTF-8", "MANWIDTH": "100", **more}
         return subprocess.run(
             [str(word) for word in words], cwd=self.folder, env=environment, input=asked, capture_output=True, encoding="utf-8",
@@ -103,6 +105,10 @@ class Installed:
         self.policy, self.review = self.replicas / "policy.json", self.replicas / "five.review.json"
         self.response = (self.replicas / "five.response.json").read_text()
         self.program = prefix / "bin" / "celbpf"
+
+    def manual(self) -> list[Any]:
+        """The man pages of the package."""
+        return [self.prefix / "share" / "man" / "man1" / f"{name}.1.gz" for name in NAMES]
 
 
 def dap_launch(policy: Path) -> str:
@@ -125,7 +131,6 @@ def check_programs(checks: Checks, it: Installed) -> None:
     checks.run([f"{program}-place", it.policy], 0, "accepted\n")
     checks.run([f"{program}-reviews", it.policy, it.review], 1, f"{it.review}: denied")
     checks.run([f"{program}-test", it.replicas], 0, "TAP version 13\n1..3\nok 1")
-    checks.run([f"{program}-adapt", it.policy], 0, '{\n  "apiVersion"')
     checks.run([f"{program}-as-reviews", it.policy], 0, '{"apiVersion":"admission.k8s.io/v1"')
     checks.run([f"{program}-dap"], 0, "Content-Length: ", dap_launch(it.policy))
     checks.run([f"{program}-asm", "-"], 0, "mov64 r0, 1\nexit\n", "mov64 r0, 0x1 ; one\nexit\n")
@@ -143,6 +148,7 @@ def check_vapctl(checks: Checks, it: Installed) -> None:
         checks.run([it.prefix / "bin" / name, *words], 1, "::warning file=")
     checks.run([vapctl, "lint", it.policy], 0, "1 policy: 1 accepted\n")
     checks.run([vapctl, "compile", it.policy, "-o", "replicas.img"], 0, "")
+    checks.run([vapctl, "translate", it.policy], 0, '{\n  "apiVersion"')
     checks.run([vapctl, "why", it.policy, it.review], 1, "denied\nvalidation 0: false")
     words = ["why", "--cluster", cluster / "state.json", "-n", "dev", cluster / "manifests.yaml", "--object", "orders"]
     checks.run([vapctl, *words], 1, "denied\n    databases")
@@ -152,7 +158,10 @@ def check_vapctl(checks: Checks, it: Installed) -> None:
 
 def check_library(checks: Checks, it: Installed) -> Iterator[str]:
     """The library, from each language; yields what is left out."""
-    pkg = {"PKG_CONFIG_PATH": str(it.prefix / "lib" / "pkgconfig")}
+    lib = it.prefix / "lib"
+    # below /usr all is found where the system looks
+    is_elsewhere = it.prefix != Path("/usr")
+    pkg = {"PKG_CONFIG_PATH": str(lib / "pkgconfig")} if is_elsewhere else {}
     sources, words = it.prefix / "share" / "celbpf", [it.policy, it.review]
     if lacking := missing("cc", "pkg-config"):
         yield f"C and Rust {lacking}"
@@ -160,19 +169,16 @@ def check_library(checks: Checks, it: Installed) -> Iterator[str]:
     example = it.examples / "c" / "example.c"
     checks.run(["sh", "-c", f"cc -o archive {example} $(pkg-config --cflags --libs celbpf)"], 0, "", **pkg)
     checks.run(["./archive", *words], 1, it.response)
-    lib = it.prefix / "lib"
     checks.run(["cc", "-o", "shared", example, "-I", it.prefix / "include", f"-L{lib}", "-lcelbpf", f"-Wl,-rpath,{lib}"], 0, "")
     checks.run(["./shared", *words], 1, it.response)
     (checks.folder / "mine.py").write_text(PYTHON)
-    python = {"PYTHONPATH": str(sources / "python" / "celbpf"), "CELBPF_LIBRARY": str(lib / "libcelbpf.so.1")}
-    checks.run(["python3", "-B", "mine.py", *words], 1, it.response, **python)
+    python = {"CELBPF_LIBRARY": str(lib / "libcelbpf.so.1")} if is_elsewhere else {}
+    checks.run(["python3", "-B", "mine.py", *words], 1, it.response, PYTHONPATH=str(sources / "python" / "celbpf"), **python)
     if lacking := missing("go"):
         yield f"Go {lacking}"
     else:
-        # the packages are copied, as a user may not write beside them
-        shutil.copytree(sources / "go", checks.folder / "go", dirs_exist_ok=True)
-        names = {"GOCACHE": str(checks.folder / "cache"), "GOFLAGS": "-mod=mod", "GOPROXY": "off", "CGO_ENABLED": "1"}
-        checks.run(["sh", "-c", "cd go/example && go build -o ../../go-example ."], 0, "", **pkg, **names)
+        names = {"GOCACHE": str(checks.folder / "cache"), "GOPROXY": "off", "CGO_ENABLED": "1"}
+        checks.run(["sh", "-c", f"cd {sources}/go/example && go build -o {checks.folder}/go-example ."], 0, "", **pkg, **names)
         checks.run(["./go-example", *words], 1, it.response)
     if lacking := missing("cargo"):
         yield f"Rust {lacking}"
@@ -180,12 +186,11 @@ def check_library(checks: Checks, it: Installed) -> Iterator[str]:
         check_rust(checks, sources / "rust" / "celbpf", pkg, words, it.response)
 
 
-def check_rust(checks: Checks, package: Path, pkg: dict, words: list, response: str) -> None:
+def check_rust(checks: Checks, package: Path, pkg: dict[str, Any], words: list[Any], response: str) -> None:
     """A program in Rust that depends on the package."""
-    shutil.copytree(package, checks.folder / "rust", dirs_exist_ok=True)
     folder = checks.folder / "mine"
     (folder / "src").mkdir(parents=True, exist_ok=True)
-    (folder / "Cargo.toml").write_text(CARGO.format("../rust"))
+    (folder / "Cargo.toml").write_text(CARGO.format(package))
     (folder / "src" / "main.rs").write_text(RUST)
     run = ["cargo", "run", "-q", "--offline", "--manifest-path", folder / "Cargo.toml", "--", *words]
     checks.run(run, 1, response, **pkg)
@@ -193,11 +198,10 @@ def check_rust(checks: Checks, package: Path, pkg: dict, words: list, response: 
 
 def check_manual(checks: Checks, it: Installed) -> Iterator[str]:
     """The man pages and the completion; yields what is left out."""
-    pages = sorted((it.prefix / "share" / "man" / "man1").iterdir())
     if lacking := missing("man"):
         yield f"man pages {lacking}"
     else:
-        for page in pages:
+        for page in it.manual():
             ran = checks.ran(["man", "--warnings", "-l", page])
             name = page.name.removesuffix(".1.gz")
             is_right = ran.returncode == 0 and not ran.stderr and f"{name} - " in " ".join(ran.stdout.split())
@@ -209,7 +213,7 @@ def check_manual(checks: Checks, it: Installed) -> Iterator[str]:
         checks.run(["zsh", "-f", "-c", ZSH, "zsh", it.prefix], 0, ZSH_SAYS)
 
 
-def anchors_of(text: str) -> set:
+def anchors_of(text: str) -> set[Any]:
     """The anchors of a page's headings."""
     heads = re.findall(r"^#+ (.*)$", text, re.MULTILINE)
     return {re.sub(r"[^\w\- ]", "", head).strip().lower().replace(" ", "-") for head in heads}
@@ -231,7 +235,7 @@ def text_faults(doc: Path) -> Iterator[str]:
 def check_texts(checks: Checks, it: Installed) -> None:
     """The pages, and the texts of the man pages."""
     faults = list(text_faults(it.doc))
-    for page in sorted((it.prefix / "share" / "man" / "man1").iterdir()):
+    for page in it.manual():
         text = gzip.decompress(page.read_bytes()).decode()
         faults += [f"{page.name}: {line}" for line in text.split("\n") if OF_REPOSITORY.search(line)]
     checks.tell("the texts of pages", not faults, "\n".join(faults))

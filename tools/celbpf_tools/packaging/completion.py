@@ -2,6 +2,7 @@
 
 import importlib
 import re
+from typing import Any
 
 from ..home import DATA
 from ..vapctl.main import parser
@@ -83,7 +84,7 @@ def of_script(name: str) -> str:
     return " ".join(dict.fromkeys(OPTION.findall(doc.split("usage: ")[1].split("\n\n")[0])))
 
 
-def of_vapctl(name: str) -> dict:
+def of_vapctl(name: str) -> dict[str, Any]:
     """The subcommands of `vapctl` by one of its names, and the options of each."""
     commands = commands_of(parser(name))
     return {name: " ".join(commands), **{f"{name} {one}": " ".join(options_of(command)) for one, command in commands.items()}}

@@ -5,7 +5,7 @@ tables, whose rows become items that begin with their first cell.
 """
 
 import re
-from typing import Iterator
+from typing import Any, Iterator
 
 LINK = re.compile(r"\[([^\]]*)\]\(([^)]*)\)")
 CODE = re.compile(r"`` (.+?) ``|`([^`]+)`")
@@ -29,12 +29,12 @@ def inline(text: str) -> str:
     return made
 
 
-def head(name: str, what: str, version: str) -> list:
+def head(name: str, what: str, version: str) -> list[Any]:
     """The head of a page, up to its name."""
     return [f'.TH {name.upper()} 1 "" "celbpf {version}" "celbpf"', ".ad l", ".SH NAME", f"{escaped(name)} \\- {escaped(what)}"]
 
 
-def rows_of(lines: list) -> Iterator[str]:
+def rows_of(lines: list[Any]) -> Iterator[str]:
     """The rows of a table as items."""
     for line in lines[2:]:
         first, *others = [cell.strip() for cell in CELL.split(line)[1:-1]]
@@ -46,7 +46,7 @@ class Page:
 
     def __init__(self, text: str):
         self.lines = text.split("\n")
-        self.paragraph: list = []
+        self.paragraph: list[Any] = []
 
     def ended(self) -> Iterator[str]:
         """The paragraph that has begun, which ends here."""
@@ -55,7 +55,7 @@ class Page:
             yield inline(" ".join(self.paragraph))
             self.paragraph = []
 
-    def while_next(self, first: str, *starts: str) -> list:
+    def while_next(self, first: str, *starts: str) -> list[Any]:
         """A line and those after it that begin so."""
         found = [first]
         while self.lines and self.lines[0].startswith(starts):

@@ -2,12 +2,12 @@
 
 import os
 import re
-from typing import Iterator
+from typing import Any, Iterator
 
 from ..home import ROOT
 
 # the scripts for policies, which need nothing of the repository
-SCRIPTS = ("why", "place", "reviews", "test", "adapt", "as-reviews", "dap", "asm")
+SCRIPTS = ("why", "place", "reviews", "test", "as-reviews", "dap", "asm")
 PAGES = (
     "ASSEMBLER", "CEL", "CLUSTER", "CLUSTERS", "CODE", "COMMANDS", "DEBUGGER", "EMBEDDING", "GATEKEEPER", "GLOSSARY", "HELPERS",
     "INSTALL", "LANGUAGE", "MACHINE", "PERFORMANCE", "PIPELINES", "POLICIES", "SCRIPTS", "TUTORIAL", "VALUES", "VAPCTL", "WHY",
@@ -22,7 +22,7 @@ LEFT_OUT = {
     "docs/INSTALL.md": ("Make the package",),
 }
 # what a paragraph has that says how the programs or the package are made
-BUILDING = re.compile(r"^A \[package\]|`rt\b|^    rt\b|^passes all proofs\b|\btools/(?:quick|build)\b|\bcrates/\w+/out\b|`crates\.txt`")
+BUILDING = re.compile(r"^In a \[package\]|`rt\b|^    rt\b|^passes all proofs\b|\btools/(?:quick|build)\b|\bcrates/\w+/out\b|`crates\.txt`")
 LINK = re.compile(r"\[([^\]]*)\]\(([^)#\s]+)(#[^)\s]*)?\)")
 NAMES = [
     (re.compile(r"(?<![\w/.])tools/(" + "|".join(SCRIPTS) + r")\b"), r"celbpf-\1"),
@@ -31,12 +31,13 @@ NAMES = [
     (re.compile(r"(?<![\w/.])\./(celbpf|gatekeeper|vapctl)\b"), r"\1"),
     (re.compile(r"(?<![\w/.])embed/c/example\.c"), f"{HOME}/examples/c/example.c"),
     (re.compile(r"(?<![\w/.(])examples/"), f"{HOME}/examples/"),
+    (re.compile(r"\bPREFIX/"), "/usr/"),
 ]
 # files that have other places once they are installed
 PLACES = {"embed/c/celbpf.h": "`/usr/include/celbpf.h`"}
 
 
-def pictures() -> list:
+def pictures() -> list[Any]:
     """The pictures of the pages."""
     return sorted(str(path.relative_to(ROOT)) for path in ROOT.glob("docs/*.png"))
 
@@ -48,7 +49,7 @@ def renamed(text: str) -> str:
     return text
 
 
-def without_sections(text: str, titles: tuple) -> str:
+def without_sections(text: str, titles: tuple[Any, ...]) -> str:
     """A page without the sections of these titles."""
     for title in titles:
         text = re.sub(rf"^## {re.escape(title)}\n.*?(?=^## |\Z)", "", text, flags=re.MULTILINE | re.DOTALL)
@@ -71,7 +72,7 @@ def is_installed(page: str, target: str) -> bool:
 def linked(page: str, text: str) -> Iterator[str]:
     """The lines of a page, with links to what is installed alone; rows of tables that link to nothing else are left out."""
 
-    def link(found: re.Match) -> str:
+    def link(found: re.Match[str]) -> str:
         if is_installed(page, found[2]):
             return found[0]
         return PLACES.get(path_of(page, found[2]), f"{found[1]} (in the repository)")

@@ -5,11 +5,13 @@ import importlib
 import shutil
 import tempfile
 from pathlib import Path
-from typing import Optional
+from typing import Any, Optional
 
 from ..embedding.building import EMBED, installed, made
 from ..home import PACKAGE, ROOT
-from ..vapctl.main import DESCRIPTION, NAMES as VAPCTL, parser
+from ..vapctl.main import DESCRIPTION
+from ..vapctl.main import NAMES as VAPCTL
+from ..vapctl.main import parser
 from . import manual, pages
 from .commands_manual import of_parser
 from .completion import NAMES, bash, zsh
@@ -17,9 +19,7 @@ from .completion import NAMES, bash, zsh
 # the scripts for policies, which need nothing of the repository
 SCRIPTS = pages.SCRIPTS
 # the packages of Python that these need
-MODULES = (
-    "asking", "adapting", "assembling", "testing", "evaluator", "manifests", "slots", "viewing", "dap", "vapctl", "commands",
-)
+MODULES = ("asking", "assembling", "testing", "evaluator", "manifests", "slots", "viewing", "dap", "vapctl", "commands")
 ENTRY = '''#!/usr/bin/env python3
 """{what}"""
 
@@ -56,7 +56,7 @@ def copied(source: Path, target: Path) -> None:
         shutil.copy(source, target)
 
 
-def put_programs(prefix: Path, programs: dict) -> None:
+def put_programs(prefix: Path, programs: dict[str, Any]) -> None:
     for name, path in programs.items():
         copied(path, prefix / "bin" / name)
         (prefix / "bin" / name).chmod(0o755)
@@ -135,7 +135,7 @@ def put_completion(prefix: Path) -> None:
     written(prefix / "share" / "zsh" / "vendor-completions" / "_celbpf", zsh())
 
 
-def plant(prefix: Path, programs: dict, library: Optional[Path], version: str) -> None:
+def plant(prefix: Path, programs: dict[str, Any], library: Optional[Path], version: str) -> None:
     """Puts all files of the package below a prefix, such as /usr; without a library that is left out."""
     put_programs(prefix, programs)
     put_scripts(prefix)

@@ -13,7 +13,6 @@ import tempfile
 from typing import Any
 
 from ..asking.program import Program, located, usable
-
 from .commands import Commands, run_table
 from .expressions import Expressions
 from .language import Language
@@ -25,11 +24,11 @@ def main() -> Any:
     with tempfile.TemporaryDirectory() as folder, tempfile.TemporaryDirectory() as other:
         language = Language(gatekeeper, other)
         language.all()
+        language.clusters()
         commands = Commands(path, gatekeeper, folder)
         run_table(commands, read("tools/data/run-commands/pages").splitlines())
         expressions = Expressions(Program(path, other))
         expressions.cel()
-        expressions.clusters()
     done = commands.runs + expressions.compared + language.compared
     differing = commands.differing + expressions.differing + language.differing
     print(f"{done - differing} of {done} commands and expressions of pages are as the pages say")

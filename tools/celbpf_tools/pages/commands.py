@@ -10,10 +10,11 @@ from typing import Any
 from ..home import ROOT
 from .texts import block, read, spans, tables
 
-COMMAND = re.compile(r"\./(?:celbpf (?:compile|review|run-image|asm|list)|vapctl (?:check|audit|state|test|why|lint|compile)) [^`\n]+")
+OF_VAPCTL = "check|audit|state|test|why|lint|compile|translate"
+COMMAND = re.compile(rf"\./(?:celbpf (?:compile|review|run-image|asm|list)|vapctl (?:{OF_VAPCTL})) [^`\n]+")
 SESSION = re.compile(r"\./celbpf debug [^`\n]+")
 # where pages are
-FOLDERS = ("", "docs/", "examples/policies/", "crates/*/")
+FOLDERS = ("", "docs/", "examples/policies/", "examples/wide/", "crates/*/")
 MORE = {"seven lines more": 7, "ten lines more": 10}
 
 
@@ -32,8 +33,8 @@ class Commands:
     def shell(self, text: str, asked: Any = '') -> Any:
         """The status and both outputs of a text that a shell runs."""
         path = {**os.environ, "PATH": f"{self.folder}:{os.environ['PATH']}", "CELBPF_PROGRAM": str(self.program)}
-        outputs = {"stdout": subprocess.PIPE, "stderr": subprocess.STDOUT}
-        ended = subprocess.run(text, shell=True, cwd=self.folder, env=path, text=True, input=asked, **outputs)
+        ended = subprocess.run(text, shell=True, cwd=self.folder, env=path, text=True, input=asked, stdout=subprocess.PIPE,
+                               stderr=subprocess.STDOUT, check=False)
         return ended.returncode, ended.stdout
 
     def tell(self, page: Any, what: Any, is_right: Any, found: Any) -> None:
@@ -65,7 +66,8 @@ class Page:
         self.one_line = re.sub(r"\s+", " ", self.text)
         self.left = COMMAND.findall(self.text)
         self.setting = ""
-        self.command, self.is_shown, self.wanted = "", False, []
+        self.command, self.is_shown = "", False
+        self.wanted: list[str] = []
 
     def read_line(self, word: Any, rest: Any, line: Any) -> None:
         """Obeys a line of the table."""
@@ -102,7 +104,8 @@ class Page:
 
 def run_table(commands: Any, lines: Any) -> None:
     """Runs a table of commands, and sees that each command of its pages is in it."""
-    page, named = None, set()
+    page: Any = None
+    named = set()
     for line in lines:
         word, _, rest = line.partition(" ")
         if word == "page":

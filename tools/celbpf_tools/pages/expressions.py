@@ -1,17 +1,14 @@
-"""The expressions of docs/CEL.md and docs/CLUSTERS.md, with what the pages say that they come to."""
+"""The expressions of docs/CEL.md, with what the page says that they come to."""
 
 import re
 from typing import Any
 
 from ..asking import policies
-
 from .texts import read, spans, tables
 
 EXAMPLE = re.compile(r"`([^`]+)`(?: is `([^`]+)`|(?: is)? (the error|true|false|refused|[A-Z]\w+|-?[0-9]+))?")
 PROBES = {"Bool": "true", "Int": "1", "String": "'a'", "Null": "null", "List": "[]", "Map": "{}"}
 MOST_NODES, MOST_NEED = 512, 60
-# names that stand for values in the forms of docs/CLUSTERS.md
-FREE = "mabet"
 
 
 class Expressions:
@@ -75,16 +72,6 @@ class Expressions:
             self.same(page, one, number, self.cause(one))
         self.measures(page, text)
 
-    def clusters(self) -> None:
-        """The forms of docs/CLUSTERS.md that are refused here, and those that are refused in a cluster alone."""
-        page = "docs/CLUSTERS.md"
-        for _, head, rows in tables(read(page)):
-            for form, here, there in ((form, *row[1:3]) for row in rows for form in spans(row[0])):
-                if re.fullmatch("[PMY][0-9]", here):
-                    self.same(page, form, here, self.cause(whole(form)).split(" ")[0])
-                elif there.startswith("refused") and here == "taken" and not form.isidentifier():
-                    self.same(page, form, "", self.cause(form))
-
 
 def nested(text: str, need: Any, more: Any) -> Any:
     """A policy that needs as many words as it may, or more of them, if the text needs so many."""
@@ -101,11 +88,3 @@ def filled(text: str, nodes: Any, more: Any) -> Any:
     """A policy of as many nodes as it may have, or more of them, if the text has so many."""
     rest = chain(MOST_NODES - 3 - nodes + more)
     return policies.whole({"validations": [{"expression": text}, {"expression": rest}]})
-
-
-def whole(form: Any) -> Any:
-    """A form of docs/CLUSTERS.md as an expression."""
-    text = f"object.{form}(1)" if form.isidentifier() else form.removesuffix("..").replace("..", "true")
-    for name in FREE:
-        text = f"[object].map({name}, {text})"
-    return text

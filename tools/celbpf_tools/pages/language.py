@@ -1,17 +1,17 @@
-"""The expressions of docs/LANGUAGE.md, with what the page says that they come to, asked of a gatekeeper."""
+"""The expressions of docs/LANGUAGE.md and docs/CLUSTERS.md, with what the pages say that they come to, asked of a gatekeeper."""
 
 import json
 import re
 import subprocess
 from pathlib import Path
-from typing import Any
 
 from ..asking import policies
-from ..asking.wide_places import Gatekeeper, bound_to_optional
+from ..asking.gatekeeper import Gatekeeper
+from ..asking.wide_places import bound_to_optional
 from .expressions import Expressions
 from .texts import block, read, spans, tables
 
-PAGE = "docs/LANGUAGE.md"
+PAGE, CLUSTERS = "docs/LANGUAGE.md", "docs/CLUSTERS.md"
 # an expression in back quotes, and what it is: a value, the error, or refused with a code
 EXAMPLE = re.compile(r"(`+) ?(.+?) ?\1(?!`) is (?:`([^`]+)`|(the error|true|false|null|-?[0-9]+)|refused \(([PMYWKG][0-9])\))")
 UID = "u1"
@@ -82,6 +82,14 @@ class Language(Expressions):
                     self.compare(row[head.index("Examples")])
                 elif head[0] == "Not supported yet":
                     self.forms(row[0], row[1])
+
+    def clusters(self) -> None:
+        """The forms of docs/CLUSTERS.md that are taken here, and refused in a cluster."""
+        for _, head, rows in tables(read(CLUSTERS)):
+            for row in rows if head[1] == "Here" else ():
+                if row[1] == "taken" and row[2].startswith("refused"):
+                    for form in (one for one in spans(row[0]) if not one.isidentifier()):
+                        self.same(CLUSTERS, form, "", self.cause(form))
 
 
 def whole(name: str, operand: str) -> str:

@@ -17,7 +17,7 @@ def spans(text: str) -> Any:
     return [first or second for first, second in SPAN.findall(text)]
 
 
-def blocks(text: str) -> Iterator:
+def blocks(text: str) -> Iterator[Any]:
     """The indented blocks, without their indent."""
     for block in re.findall(r"(?:^    .*\n)(?:^(?:    .*)?\n)*", text, re.M):
         yield "\n".join(line[4:] for line in block.rstrip("\n").split("\n")) + "\n"
@@ -33,7 +33,7 @@ def cells(row: Any) -> Any:
     return [cell.strip().replace("\\|", "|") for cell in re.split(r"(?<!\\)\|", row)[1:-1]]
 
 
-def tables(text: str) -> Iterator:
+def tables(text: str) -> Iterator[Any]:
     """For each table where it begins, the cells of its head, and those of its rows."""
     for table in re.finditer(r"(?:^\|.*\n)+", text, re.M):
         head, _, *rows = table.group().splitlines()

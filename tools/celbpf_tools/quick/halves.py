@@ -8,7 +8,7 @@ arithmetic and of what cannot be reached stay.
 
 import re
 from pathlib import Path
-from typing import Iterable
+from typing import Any, Iterable
 
 OF_MEMORY = re.compile(
     r"  call void @(llvm\.memset\.p0\.i64\(ptr %\d+, i8 -86,"
@@ -23,10 +23,10 @@ class Differs(Exception):
     """The toolchain makes no program in this way; it holds what was said."""
 
 
-def parts_of(module: Iterable[str]) -> tuple:
+def parts_of(module: Iterable[str]) -> tuple[Any, ...]:
     """The lines of each function, which are in the order of a walk from `main`, and those of all else."""
     functions, others = [], []
-    function: list = []
+    function: list[Any] = []
     for line in module:
         if OF_MEMORY.match(line):
             continue
@@ -42,11 +42,11 @@ def parts_of(module: Iterable[str]) -> tuple:
     return functions, others
 
 
-def is_short(function: list) -> bool:
+def is_short(function: list[Any]) -> bool:
     return function[0].startswith(INTERNAL) and len(function) <= SHORT
 
 
-def halves_of(module: Iterable[str]) -> tuple:
+def halves_of(module: Iterable[str]) -> tuple[Any, ...]:
     """The lines of the two modules: the first has the first long functions, with half of the lines of all long ones."""
     functions, others = parts_of(module)
     first, second = list(others), list(others)
@@ -64,7 +64,7 @@ def halves_of(module: Iterable[str]) -> tuple:
     return first, second
 
 
-def write_halves(module: Path) -> list:
+def write_halves(module: Path) -> list[Any]:
     """Writes the two modules beside the module; their files."""
     files = [module.with_name("first.ll"), module.with_name("second.ll")]
     with module.open() as text:

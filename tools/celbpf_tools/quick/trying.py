@@ -10,7 +10,7 @@ import subprocess
 import sys
 import tempfile
 from pathlib import Path
-from typing import Callable
+from typing import Any, Callable
 
 # commands whose last word is a file that is written
 WRITING = ("compile", "asm")
@@ -20,7 +20,7 @@ ENDED = re.compile(r"^run=ended status=(\d+)", re.MULTILINE)
 OF_RT = re.compile(r"^(checked: |run=|rt: )")
 
 
-def handed(words: list) -> tuple:
+def handed(words: list[Any]) -> tuple[Any, ...]:
     """The words with names instead of files, and the words of rt that hand these over."""
     found, given = [], []
     for place, word in enumerate(words):
@@ -32,7 +32,7 @@ def handed(words: list) -> tuple:
     return found, given
 
 
-def plan(words: list, say: Callable) -> list:
+def plan(words: list[Any], say: Callable[..., Any]) -> list[Any]:
     """The program's words; what it would write goes nowhere."""
     if words[:1] and words[0] in WRITING and len(words) == 3:
         say(f"{words[2]} is not written: rt hands back no file")
@@ -40,7 +40,7 @@ def plan(words: list, say: Callable) -> list:
     return words
 
 
-def tried(crate: Path, words: list, say: Callable, waited: Callable) -> tuple:
+def tried(crate: Path, words: list[Any], say: Callable[..., Any], waited: Callable[..., Any]) -> tuple[Any, ...]:
     """The status of a run, or None if there was none, and what rt said of it; `waited` waits for a process."""
     found, given = handed(plan(words, say))
     reads = words[:1] == ["debug"] or crate.name == "gatekeeper" or STDIN in words
@@ -48,7 +48,7 @@ def tried(crate: Path, words: list, say: Callable, waited: Callable) -> tuple:
         asked = None if reads else subprocess.DEVNULL
         command = ["rt", "try", *given, "--", *found]
         # a group of its own, so that what rt started is ended with it
-        how = {"stdin": asked, "stdout": out, "stderr": err, "start_new_session": True}
+        how: dict[str, Any] = {"stdin": asked, "stdout": out, "stderr": err, "start_new_session": True}
         waited(subprocess.Popen(command, cwd=crate, **how))
         out.seek(0)
         err.seek(0)

@@ -8,7 +8,6 @@ from ..evaluator.macros import ROOTS
 from ..evaluator.refused import Refused
 from ..evaluator.review import answer
 from ..evaluator.verdicts import message_text
-
 from .policies import spec_of
 from .reviews import Documents
 from .spoils import POLICIES, REVIEWS, cut, spoiled
@@ -29,7 +28,7 @@ class Case:
     params: Optional[bytes] = None
 
 
-def document(numbers: Any, value: dict) -> bytes:
+def document(numbers: Any, value: dict[str, Any]) -> bytes:
     """A document that says this, compact or laid out, with escapes or without."""
     indent = 2 if numbers.one_in(4) else None
     return cut(numbers, json.dumps(value, indent=indent, ensure_ascii=numbers.one_in(2)).encode())
@@ -48,13 +47,13 @@ def case_of(numbers: Any) -> Case:
 class Outcome:
     """What came of a case: what was wanted, how many steps it took, and where the program differs."""
 
-    answer: object = None
+    answer: Any = None
     refusal: str = ""
     steps: int = 0
-    differences: tuple = ()
+    differences: tuple[Any, ...] = ()
 
 
-def wanted(case: Case) -> tuple:
+def wanted(case: Case) -> tuple[Any, ...]:
     """The evaluator's answer to a case, or the refusal's text."""
     try:
         return answer(case.policy, case.review, case.namespace, case.params), ""
@@ -62,24 +61,24 @@ def wanted(case: Case) -> tuple:
         return None, why.text
 
 
-def compared(name: str, found: Any, *allowed: Any) -> list:
+def compared(name: str, found: Any, *allowed: Any) -> list[Any]:
     """Nothing, where what was found is one of what is allowed; else a line that says so."""
     return [] if found in allowed else [f"{name}: {found!r} and not {allowed[0]!r}"]
 
 
-def verdict_lines(verdict: Any) -> list:
+def verdict_lines(verdict: Any) -> list[Any]:
     """What `w` says of a verdict, but for where the messages' texts stand."""
     lines = [f"verdict {verdict.outcome} {len(verdict.denials)}"]
     lines += [f"validation {place} {result}" for place, result in enumerate(verdict.results) if result]
     return lines + [f"message {place}" for place, value in verdict.denials if message_text(value) is not None]
 
 
-def without_places(lines: list) -> list:
+def without_places(lines: list[Any]) -> list[Any]:
     """Lines of `w` without the places of the messages' texts."""
     return [line.rsplit(" ", 1)[0] if line.startswith("message") else line for line in lines]
 
 
-def look_at_steps(program: Any, words: list, given: Any, answered: tuple) -> tuple:
+def look_at_steps(program: Any, words: list[Any], given: Any, answered: tuple[Any, ...]) -> tuple[Any, ...]:
     """How many steps the program takes, and where what it shows at its end, or a step before, differs."""
     move, shown = program.session(words, given.costs.steps)
     end = f"exited 0x{given.verdict.outcome:016x}"

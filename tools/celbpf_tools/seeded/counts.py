@@ -12,10 +12,10 @@ OUTCOMES = {ADMITTED: "admitted", SKIPPED: "skipped", DENIED: "denied", REJECTED
 class Counts:
     """Sums over outcomes."""
 
-    def __init__(self):
-        self.outcomes = Counter()
-        self.refusals = Counter()
-        self.ratios = []
+    def __init__(self) -> None:
+        self.outcomes: Counter[str] = Counter()
+        self.refusals: Counter[str] = Counter()
+        self.ratios: list[float] = []
         self.beyond = 0
         self.differing = 0
 
@@ -33,7 +33,7 @@ class Counts:
         if outcome.steps:
             self.ratios.append(outcome.steps / outcome.answer.costs.work)
 
-    def lines(self) -> Iterator:
+    def lines(self) -> Iterator[str]:
         """The numbers, a line each."""
         yield f"accepted {self.accepted}: {listed(self.outcomes)}"
         if self.refusals:
@@ -50,5 +50,5 @@ def kind_of(refusal: str) -> str:
     return " ".join(word for word in refusal.split() if len(word) == 2 and word[0].isupper())
 
 
-def listed(counter: Counter) -> str:
+def listed(counter: Counter[str]) -> str:
     return ", ".join(f"{name} {count}" for name, count in sorted(counter.items()))

@@ -63,12 +63,12 @@ NAMES = ["x", "y", "c", "k", "item", "r", "all", "e"]
 class Expressions:
     """Makes expressions that may use these variables, a dict from names to kinds, and mostly these roots."""
 
-    def __init__(self, numbers: Any, variables: dict, roots: list):
+    def __init__(self, numbers: Any, variables: dict[str, str], roots: list[str]):
         self.numbers = numbers
         self.variables = variables
         self.roots = roots
         # the iteration names in force, with the kinds that their items mostly have
-        self.names = []
+        self.names: list[tuple[str, str]] = []
 
     def text(self, kind: str, room: int) -> str:
         """The text of an expression of a kind, with at most so many nodes above one another."""
@@ -77,7 +77,7 @@ class Expressions:
             made = self.numbers.pick([f" {made}", f"{made}\n", f"// why\n{made}", f"{made} // why"])
         return made
 
-    def make(self, kind: str, room: int) -> tuple:
+    def make(self, kind: str, room: int) -> tuple[str, int]:
         """The text and the level of an expression."""
         if self.numbers.one_in(250):
             kind = self.numbers.pick(KINDS)
@@ -103,7 +103,7 @@ class Expressions:
 
     # leaves
 
-    def leaf(self, kind: str) -> tuple:
+    def leaf(self, kind: str) -> tuple[str, int]:
         """A literal, a path, an iteration name or a variable."""
         chosen = self.numbers.below(12)
         items = self.items_of(kind) if chosen < 6 else []
@@ -122,7 +122,7 @@ class Expressions:
         known = [path for path in paths if path.split(".")[0].split("[")[0] in self.roots]
         return self.numbers.pick(known) if known else self.literal(kind)
 
-    def items_of(self, kind: str) -> list:
+    def items_of(self, kind: str) -> list[str]:
         """The iteration names in force, and the fields of their items, that mostly are of a kind."""
         found = []
         for name, given in self.names:
@@ -156,9 +156,9 @@ class Expressions:
         comma = self.numbers.pick(["", "", "", "", ","])
         return f"[{', '.join(items)}{comma}]"
 
-    def map_literal(self, _, room: int) -> str:
+    def map_literal(self, _: str, room: int) -> str:
         entries = []
-        for _ in range(self.numbers.below(4)):
+        for _place in range(self.numbers.below(4)):
             key = text_literal(self.numbers, self.numbers.pick(FIELDS))
             if room and self.numbers.one_in(8):
                 key = self.part("text", room - 1, TERNARY)
@@ -168,12 +168,12 @@ class Expressions:
 
     # forms of every kind
 
-    def ternary(self, kind: str, room: int) -> tuple:
+    def ternary(self, kind: str, room: int) -> tuple[str, int]:
         condition = self.part("bool", room, OR)
         chosen, other = self.part(kind, room, OR), self.part(kind, room, TERNARY)
         return f"{condition} ? {chosen} : {other}", TERNARY
 
-    def of_map(self, kind: str, room: int) -> tuple:
+    def of_map(self, kind: str, room: int) -> tuple[str, int]:
         """What a map has under a key, which it mostly has."""
         field = self.numbers.pick(FIELDS)
         target = f"{{'{field}': {self.part(kind, room, TERNARY)}, 'a': {self.any(0, TERNARY)}}}"
@@ -183,86 +183,86 @@ class Expressions:
             return f"{target}[{text_literal(self.numbers, field)}]", MEMBER
         return f"{target}.{field}", MEMBER
 
-    def of_list(self, kind: str, room: int) -> tuple:
+    def of_list(self, kind: str, room: int) -> tuple[str, int]:
         """An item of a list, which it mostly has."""
         if self.numbers.one_in(4):
             return f"{self.part('list', room, MEMBER)}[{self.part('int', 0, TERNARY)}]", MEMBER
         items = f"[{self.part(kind, room, TERNARY)}, {self.any(0, TERNARY)}]"
         return f"{items}[{self.numbers.pick('0001')}]", MEMBER
 
-    def dynamic(self, kind: str, room: int) -> tuple:
+    def dynamic(self, kind: str, room: int) -> tuple[str, int]:
         wanted = self.numbers.pick(KINDS) if self.numbers.one_in(8) else kind
         return f"dyn({self.part(wanted, room, TERNARY)})", MEMBER
 
     # bools
 
-    def logic(self, _, room: int) -> tuple:
+    def logic(self, _: str, room: int) -> tuple[str, int]:
         if self.numbers.one_in(2):
             return self.between(self.part("bool", room, AND), "&&", self.part("bool", room, RELATION)), AND
         return self.between(self.part("bool", room, OR), "||", self.part("bool", room, AND)), OR
 
-    def no(self, _, room: int) -> tuple:
+    def no(self, _: str, room: int) -> tuple[str, int]:
         return self.numbers.pick(["!", "!", "!!"]) + self.part("bool", room, MEMBER), UNARY
 
-    def equality(self, _, room: int) -> tuple:
+    def equality(self, _: str, room: int) -> tuple[str, int]:
         kind = self.numbers.pick(KINDS)
         other = "null" if self.numbers.one_in(40) else self.part(kind, room, SUM)
         sign = self.numbers.pick(["==", "!="])
         return self.between(self.part(kind, room, RELATION), sign, other), RELATION
 
-    def ordering(self, _, room: int) -> tuple:
+    def ordering(self, _: str, room: int) -> tuple[str, int]:
         kind = self.numbers.pick(["int", "int", "int", "text", "bool"])
         sign = self.numbers.pick(["<", "<=", ">", ">="])
         return self.between(self.part(kind, room, SUM), sign, self.part(kind, room, SUM)), RELATION
 
-    def membership(self, _, room: int) -> tuple:
+    def membership(self, _: str, room: int) -> tuple[str, int]:
         if self.numbers.one_in(3):
             return self.between(self.part("text", room, SUM), "in", self.part("map", room, SUM)), RELATION
         return self.between(self.any(room, SUM), "in", self.part("list", room, SUM)), RELATION
 
-    def presence(self, _, room: int) -> tuple:
+    def presence(self, _: str, room: int) -> tuple[str, int]:
         return f"has({self.part('map', room, MEMBER)}.{self.numbers.pick(FIELDS)})", MEMBER
 
-    def text_test(self, _, room: int) -> tuple:
+    def text_test(self, _: str, room: int) -> tuple[str, int]:
         method = self.numbers.pick(["startsWith", "endsWith", "contains"])
         return f"{self.part('text', room, MEMBER)}.{method}({self.part('text', room, TERNARY)})", MEMBER
 
-    def quantifier(self, _, room: int) -> tuple:
+    def quantifier(self, _: str, room: int) -> tuple[str, int]:
         word = self.numbers.pick(["all", "exists", "exists_one"])
         return self.macro(word, ["bool"], room), MEMBER
 
     # ints
 
-    def sum(self, kind: str, room: int) -> tuple:
+    def sum(self, kind: str, room: int) -> tuple[str, int]:
         sign = self.numbers.pick(["+", "-"]) if kind == "int" else "+"
         return self.between(self.part(kind, room, SUM), sign, self.part(kind, room, PRODUCT)), SUM
 
-    def product(self, _, room: int) -> tuple:
+    def product(self, _: str, room: int) -> tuple[str, int]:
         sign = self.numbers.pick(["*", "/", "%"])
         return self.between(self.part("int", room, PRODUCT), sign, self.part("int", room, UNARY)), PRODUCT
 
-    def negative(self, _, room: int) -> tuple:
+    def negative(self, _: str, room: int) -> tuple[str, int]:
         return self.numbers.pick(["-", "-", "--", "- "]) + self.part("int", room, MEMBER), UNARY
 
-    def count(self, _, room: int) -> tuple:
+    def count(self, _: str, room: int) -> tuple[str, int]:
         target = self.part(self.numbers.pick(["text", "list", "map"]), room, MEMBER)
         return (f"size({target})" if self.numbers.one_in(2) else f"{target}.size()"), MEMBER
 
     # texts, lists and maps
 
-    def decimal(self, _, room: int) -> tuple:
+    def decimal(self, _: str, room: int) -> tuple[str, int]:
         return f"string({self.part(self.numbers.pick(['int', 'int', 'text']), room, TERNARY)})", MEMBER
 
-    def items(self, _, room: Any) -> Any:
+    def items(self, _: str, room: int) -> tuple[str, int]:
         return self.list_literal(self.numbers.pick(KINDS), room), MEMBER
 
-    def entries(self, kind: str, room: int) -> tuple:
+    def entries(self, kind: str, room: int) -> tuple[str, int]:
         return self.map_literal(kind, room), MEMBER
 
-    def filtered(self, _, room: int) -> tuple:
+    def filtered(self, _: str, room: int) -> tuple[str, int]:
         return self.macro("filter", ["bool"], room), MEMBER
 
-    def mapped(self, _, room: int) -> tuple:
+    def mapped(self, _: str, room: int) -> tuple[str, int]:
         kind = self.numbers.pick(KINDS)
         kinds = ["bool", kind] if self.numbers.one_in(3) else [kind]
         return self.macro("map", kinds, room), MEMBER
@@ -278,7 +278,7 @@ class Expressions:
             return self.macro("map", [kind], room - 1)
         return self.numbers.pick(RANGES[kind])
 
-    def macro(self, word: str, kinds: list, room: int) -> str:
+    def macro(self, word: str, kinds: list[str], room: int) -> str:
         """A macro whose parts behind the iteration name are of these kinds."""
         given = self.numbers.pick(["bool", "int", "int", "text", "text", "list", "map", "map"])
         name, target = self.numbers.pick(NAMES), self.range_of(given, room)

@@ -31,7 +31,7 @@ class Numbers:
         """One of a list."""
         return values[self.below(len(values))]
 
-    def some(self, values: list, most: int) -> list:
+    def some(self, values: list[Any], most: int) -> list[Any]:
         """At most so many of a list, in its order."""
         wanted = self.below(most + 1)
         picked = set()

@@ -25,18 +25,18 @@ def spoiled(numbers: Any, text: str) -> str:
 class Specifications:
     """Makes specifications whose expressions mostly keep to these roots."""
 
-    def __init__(self, numbers: Any, roots: list):
+    def __init__(self, numbers: Any, roots: list[Any]):
         self.numbers = numbers
         self.roots = roots
         # the variables so far, and the kind of each
-        self.kinds = {}
+        self.kinds: dict[str, str] = {}
 
-    def expression(self, kind: str, room: int, variables: dict) -> str:
+    def expression(self, kind: str, room: int, variables: dict[str, Any]) -> str:
         """The text of an expression, which now and then is spoiled."""
         made = Expressions(self.numbers, variables, self.roots).text(kind, room)
         return spoiled(self.numbers, made) if self.numbers.one_in(60) else made
 
-    def variables(self) -> list:
+    def variables(self) -> list[Any]:
         numbers, made = self.numbers, []
         for name in numbers.some(VARIABLE_NAMES, 4):
             kind = numbers.pick(KINDS)
@@ -44,7 +44,7 @@ class Specifications:
             self.kinds[name] = kind
         return made
 
-    def conditions(self) -> list:
+    def conditions(self) -> list[Any]:
         """Conditions, most of which are true."""
         numbers, made = self.numbers, []
         for place in range(numbers.pick([0, 0, 0, 1, 2])):
@@ -53,7 +53,7 @@ class Specifications:
             made.append({"name": f"{numbers.pick(['when', 'é', 'a b'])}{place}", "expression": text})
         return made
 
-    def validation(self) -> dict:
+    def validation(self) -> dict[str, Any]:
         numbers = self.numbers
         made = {"expression": self.expression("bool", 1 + numbers.below(5), self.kinds)}
         if numbers.one_in(3):
@@ -64,7 +64,7 @@ class Specifications:
             made["reason"] = numbers.pick(REASONS)
         return made
 
-    def specification(self) -> dict:
+    def specification(self) -> dict[str, Any]:
         numbers, spec = self.numbers, {}
         if numbers.one_in(2):
             spec["failurePolicy"] = numbers.pick(["Fail", "Ignore", "Ignore"])
@@ -77,6 +77,6 @@ class Specifications:
         return spec
 
 
-def spec_of(numbers: Any, roots: list) -> dict:
+def spec_of(numbers: Any, roots: list[Any]) -> dict[str, Any]:
     """The specification of a policy whose expressions mostly keep to these roots."""
     return Specifications(numbers, roots).specification()

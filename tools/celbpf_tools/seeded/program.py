@@ -14,14 +14,14 @@ class Program:
         self.path = path
         self.folder = folder
 
-    def run(self, *words: str, lines: str = '') -> tuple:
+    def run(self, *words: str, lines: str = '') -> tuple[Any, ...]:
         """The status and both outputs of one run."""
         ended = subprocess.run(
             [self.path, *words], input=lines.encode(), capture_output=True, cwd=self.folder, timeout=SECONDS
         )
         return ended.returncode, ended.stdout.decode(), ended.stderr.decode()
 
-    def hold(self, case: Any) -> list:
+    def hold(self, case: Any) -> list[Any]:
         """Writes the documents of a case, and answers the words that name those of the review."""
         words = []
         for name in ("review", "namespace", "params"):
@@ -36,11 +36,11 @@ class Program:
         with open(f"{self.folder}/{name}", "wb") as file:
             file.write(document)
 
-    def review(self, words: list, steps: int) -> tuple:
+    def review(self, words: list[Any], steps: int) -> tuple[Any, ...]:
         """What reviewing the documents that are held ends with, within so many steps."""
         return self.run("review", "--policy", "policy.json", *words, "--steps", str(steps))
 
-    def session(self, words: list, steps: int) -> tuple:
+    def session(self, words: list[Any], steps: int) -> tuple[Any, ...]:
         """In a session on the held policy's program, the last move's line, and those of `w` behind it."""
         self.run("compile", "policy.json", "policy.img")
         moves = -(-steps // MOST_STEPS_A_LINE)

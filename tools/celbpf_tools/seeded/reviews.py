@@ -27,12 +27,12 @@ class Documents:
         lists, maps = [[], [1, "a", None], [[1], {"a": [2]}]], [{}, {"name": "a"}]
         return numbers.pick([None, True, 3, -1, "a", *lists, *maps])
 
-    def several(self, make: Callable, most: int) -> list:
+    def several(self, make: Callable[..., Any], most: int) -> list[Any]:
         """At most so many, and now and then six times as many."""
         most = 6 * most if self.numbers.one_in(20) else most
         return [make() for _ in range(self.numbers.below(most + 1))]
 
-    def object(self, **makers: Callable) -> dict:
+    def object(self, **makers: Callable[..., Any]) -> dict[str, Any]:
         """An object whose keys mostly stand there, with a value of their own kind."""
         made = {}
         for key, make in makers.items():
@@ -41,42 +41,42 @@ class Documents:
                 made[key] = make() if chosen > 1 else self.anything()
         return made
 
-    def labels(self) -> dict:
+    def labels(self) -> dict[str, Any]:
         return {key: self.text() for key in self.numbers.some(LABELS, 24)}
 
-    def limits(self) -> dict:
+    def limits(self) -> dict[str, Any]:
         return {key: self.whole() for key in self.numbers.some(["cpu", "memory", "pods"], 12)}
 
-    def container(self) -> dict:
+    def container(self) -> dict[str, Any]:
         return self.object(
             name=self.text, image=self.text, port=self.whole, privileged=self.truth,
             args=lambda: self.several(self.text, 3), env=self.labels,
         )
 
-    def metadata(self) -> dict:
+    def metadata(self) -> dict[str, Any]:
         return self.object(name=self.text, labels=self.labels, annotations=self.labels, generation=self.whole)
 
-    def spec(self) -> dict:
+    def spec(self) -> dict[str, Any]:
         return self.object(
             replicas=self.whole, paused=self.truth, image=self.text, limits=self.limits,
             ports=lambda: self.several(self.whole, 12), args=lambda: self.several(self.text, 8),
             containers=lambda: self.several(self.container, 4),
         )
 
-    def thing(self) -> dict:
+    def thing(self) -> dict[str, Any]:
         """What stands under `object` or `oldObject`."""
         return self.object(kind=self.text, metadata=self.metadata, spec=self.spec)
 
-    def params(self) -> dict:
+    def params(self) -> dict[str, Any]:
         return self.object(
             most=self.whole, prefix=self.text, strict=self.truth, limits=self.limits,
             names=lambda: self.several(self.text, 4),
         )
 
-    def user(self) -> dict:
+    def user(self) -> dict[str, Any]:
         return self.object(username=self.text, groups=lambda: self.several(self.text, 3))
 
-    def request(self) -> dict:
+    def request(self) -> dict[str, Any]:
         """A request, whose object may be null or absent."""
         numbers = self.numbers
         made = {
@@ -98,7 +98,7 @@ class Documents:
         numbers = [{"a": 1.5}, {"a": [2**63]}, {"a": {"b": -(2**63) - 1}}, {"a": -0.0}]
         return self.numbers.pick([1, "a", [], True, *numbers])
 
-    def review(self) -> tuple:
+    def review(self) -> tuple[Any, ...]:
         """A review, its namespace and its params, of which the last two may be None."""
         request = self.request()
         if self.numbers.one_in(60):

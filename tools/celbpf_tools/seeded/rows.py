@@ -45,7 +45,7 @@ def documents_of(numbers: Any) -> Any:
 def case_of_texts(spec: Any, thing: Any) -> Any:
     """The case of these texts."""
     policy = {**POLICY, "spec": json.loads(spec)}
-    review = {**REVIEW, "request": {"uid": "u1", "object": json.loads(thing)}}
+    review: dict[str, Any] = {**REVIEW, "request": {"uid": "u1", "object": json.loads(thing)}}
     return Case(compact(policy).encode(), compact(review).encode())
 
 
@@ -64,7 +64,7 @@ def row_of(numbers: Any) -> Any:
     return given.verdict.outcome, [spec, thing, *map(str, costs), "0" if given.allowed else "1", inner]
 
 
-def rows(numbers: Any, count: int) -> Iterator:
+def rows(numbers: Any, count: int) -> Iterator[Any]:
     """So many rows, a line each: specification, object, work, the most that may be charged, status and response.
     Two beside each other have different outcomes."""
     before = None
@@ -77,7 +77,7 @@ def rows(numbers: Any, count: int) -> Iterator:
         yield BAR.join(parts)
 
 
-def files_of(numbers: Any) -> Iterator:
+def files_of(numbers: Any) -> Iterator[Any]:
     """The files of the rows, as pairs of a path and a text."""
     lines = list(rows(numbers, FILES * ROWS_A_FILE))
     for file in range(FILES):

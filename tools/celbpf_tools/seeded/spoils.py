@@ -43,7 +43,7 @@ REVIEWS = [
 ]
 
 
-def spoiled(numbers: Any, spoils: list, document: dict) -> dict:
+def spoiled(numbers: Any, spoils: list[Any], document: dict[str, Any]) -> dict[str, Any]:
     """A document that now and then has one thing wrong."""
     return numbers.pick(spoils)(document) if numbers.one_in(50) else document
 

@@ -1,13 +1,11 @@
 """The code of an expression, with the slots of each sub-expression marked."""
 
 from dataclasses import dataclass, field, replace
-from typing import Optional
+from typing import Any, Optional
 
 from ..evaluator import measures
 from ..evaluator.macros import ROOTS
-from ..evaluator.trees import (
-    Call, Has, ListLiteral, Literal, Macro, MapLiteral, Method, Name, Operation, Selection, Ternary, Variable,
-)
+from ..evaluator.trees import Call, Has, ListLiteral, Literal, Macro, MapLiteral, Method, Name, Operation, Selection, Ternary, Variable
 from ..evaluator.values import kind, length
 from . import folds, tails
 from .lines import CONSTANTS, SCRATCH, Piece, Use, clear, code, ja, joined, jump, lddw, load, load_at, mov, store
@@ -26,7 +24,7 @@ NO_FRONT = (Call, ListLiteral, MapLiteral)
 class Texts:
     """Where each text begins among the constants; texts are there once, in order of first use."""
 
-    offsets: dict = field(default_factory=dict)
+    offsets: dict[str, Any] = field(default_factory=dict)
     size: int = 0
 
     def take(self, node: Node) -> None:
@@ -38,7 +36,7 @@ class Texts:
             self.offsets[text] = self.size
             self.size += length(text)
 
-    def operands(self, text: str, registers: tuple) -> list:
+    def operands(self, text: str, registers: tuple[Any, ...]) -> list[Any]:
         """The address and the length of a text into two registers."""
         return [lddw(registers[0], CONSTANTS + self.offsets[text]), mov(registers[1], length(text))]
 
@@ -49,9 +47,9 @@ class Frame:
     lists of literals that the words from `FIRST_LIST` on keep."""
 
     word: int = 0
-    items: tuple = ()
-    path: Optional[tuple] = None
-    lists: tuple = ()
+    items: tuple[Any, ...] = ()
+    path: Optional[tuple[Any, ...]] = None
+    lists: tuple[Any, ...] = ()
 
     def on(self, words: int) -> "Frame":
         return replace(self, word=self.word + words)
@@ -70,7 +68,7 @@ def named_text(node: Node) -> Optional[str]:
     return node.tree.value if is_text else None
 
 
-def path_of(node: Node) -> Optional[tuple]:
+def path_of(node: Node) -> Optional[tuple[Any, ...]]:
     """The root and the field of a node that is a field of a name."""
     is_field = isinstance(node.tree, Selection) and isinstance(node.parts[0].tree, Name)
     return (node.parts[0].tree.name, node.tree.field) if is_field else None
@@ -85,7 +83,7 @@ def front_of(node: Node) -> Optional[Node]:
     return node
 
 
-def literals_of(node: Node) -> Optional[tuple]:
+def literals_of(node: Node) -> Optional[tuple[Any, ...]]:
     """The kinds and values of a list of literals; none for another node."""
     trees = [part.tree for part in node.parts]
     if not isinstance(node.tree, ListLiteral) or not all(isinstance(tree, Literal) for tree in trees):
@@ -93,14 +91,14 @@ def literals_of(node: Node) -> Optional[tuple]:
     return tuple((kind(tree.value), tree.value) for tree in trees)
 
 
-def kept_lists(node: Node) -> tuple:
+def kept_lists(node: Node) -> tuple[Any, ...]:
     """The lists of literals inside macros that the frame of an expression keeps."""
-    found: list = []
+    found: list[Any] = []
     find_lists(node, False, found)
     return tuple(found)
 
 
-def find_lists(node: Node, inside: bool, found: list) -> None:
+def find_lists(node: Node, inside: bool, found: list[Any]) -> None:
     """Adds the lists in a node that are to be kept, each once, up to the most."""
     literals = literals_of(node)
     if inside and literals is not None and literals not in found and len(found) < MOST_LISTS:
@@ -130,7 +128,7 @@ def root_of(name: str) -> int:
 class Emitter:
     """Code for expressions over these texts, with the routines of the variables by name: (number, first slot)."""
 
-    def __init__(self, texts: Texts, routines: dict):
+    def __init__(self, texts: Texts, routines: dict[str, Any]):
         self.texts = texts
         self.routines = routines
 
@@ -201,7 +199,7 @@ class Emitter:
         """An operand into a register."""
         return simple(node, frame, register) or self.of(node, frame) + code(mov(register, "r0"))
 
-    def operands(self, node: Node, frame: Frame, registers: tuple) -> Piece:
+    def operands(self, node: Node, frame: Frame, registers: tuple[Any, ...]) -> Piece:
         """Two operands into two registers."""
         left, right = node.parts
         last = simple(right, frame, registers[1])

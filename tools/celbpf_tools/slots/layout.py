@@ -1,7 +1,7 @@
 """The code of a whole policy: its variables' routines, conditions, validations with their messages, and the outcome."""
 
 from dataclasses import dataclass, field
-from typing import Optional
+from typing import Any, Optional
 
 from ..asking.policies import Part, parts
 from .expressions import Emitter, Texts
@@ -27,11 +27,11 @@ class Placed:
 class Program:
     """The code of a policy so far: its lines, how many slots they take, and the marks in them."""
 
-    lines: list = field(default_factory=list)
-    marks: list = field(default_factory=list)
+    lines: list[Any] = field(default_factory=list)
+    marks: list[Any] = field(default_factory=list)
     size: int = 0
     texts: Texts = field(default_factory=Texts)
-    routines: dict = field(default_factory=dict)
+    routines: dict[str, Any] = field(default_factory=dict)
 
     def put(self, part: Optional[Part], piece: Piece) -> None:
         """Adds a piece at the end of the code."""
@@ -112,7 +112,7 @@ def put_validation(program: Program, ignores: bool, part: Part, message: Optiona
     program.put_own(message, "text", tail)
 
 
-def program_of(policy: dict) -> Program:
+def program_of(policy: dict[str, Any]) -> Program:
     """The code of a policy that is accepted."""
     program, found = Program(), list(parts(policy))
     ignores = policy["spec"].get("failurePolicy") == "Ignore"

@@ -37,8 +37,8 @@ class Mark:
 class Piece:
     """Lines of code with the marks in them, whose slots are counted from the first of the piece."""
 
-    lines: list = field(default_factory=list)
-    marks: list = field(default_factory=list)
+    lines: list[Any] = field(default_factory=list)
+    marks: list[Any] = field(default_factory=list)
     size: int = 0
 
     def __add__(self, other: "Piece") -> "Piece":
@@ -49,7 +49,7 @@ class Piece:
         return Piece(self.lines, [Mark(0, self.size - 1, node, register, role), *self.marks], self.size)
 
 
-def moved(marks: Iterable, by: int) -> list:
+def moved(marks: Iterable[Any], by: int) -> list[Any]:
     """Marks that are `by` slots further on."""
     return [Mark(one.first + by, one.last + by, one.node, one.register, one.role) for one in marks]
 
@@ -64,7 +64,7 @@ def code(*lines: Line) -> Piece:
     return Piece(list(lines), [], sum(map(slots_of, lines)))
 
 
-def joined(pieces: Iterable) -> Piece:
+def joined(pieces: Iterable[Any]) -> Piece:
     """Pieces one after another."""
     whole = Piece()
     for one in pieces:

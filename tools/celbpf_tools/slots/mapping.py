@@ -1,7 +1,7 @@
 """The map from slots to the parts of a policy and their sub-expressions."""
 
 from dataclasses import dataclass
-from typing import Optional, Union
+from typing import Any, Optional, Union
 
 from ..asking.policies import Part
 from ..asking.program import Program as Celbpf
@@ -60,7 +60,7 @@ class SlotMap:
         self.spans = spans_of(program)
         self.lines = dict(listed(program))
         self.innermost = [None] * self.size
-        self.ending: dict = {}
+        self.ending: dict[int, list[Span]] = {}
         for span in self.spans:
             if span.register:
                 self.ending.setdefault(span.last + 1, []).append(span)
@@ -71,11 +71,11 @@ class SlotMap:
         """The innermost span of a slot; none outside the program."""
         return self.innermost[slot] if 0 <= slot < self.size else None
 
-    def around(self, slot: int) -> list:
+    def around(self, slot: int) -> list[Any]:
         """All spans of a slot, the outermost first."""
         return [span for span in self.spans if span.holds(slot)]
 
-    def of_part(self, kind: str, place: int) -> list:
+    def of_part(self, kind: str, place: int) -> list[Any]:
         """The spans of a part, as of `validation` 0."""
         return [span for span in self.spans if span.part and (span.part.kind, span.part.place) == (kind, place)]
 
@@ -83,14 +83,14 @@ class SlotMap:
         """The span of a part's whole expression; none if there is no such part."""
         return next((span for span in self.of_part(kind, place) if span.role == "expression"), None)
 
-    def valued(self, slot: int) -> list:
+    def valued(self, slot: int) -> list[Any]:
         """The spans whose value a register names in this slot, if the step before was in them."""
         return self.ending.get(slot, [])
 
 
-def spans_of(program: Program) -> list:
+def spans_of(program: Program) -> list[Any]:
     """The spans of a program's marks."""
-    found: list = []
+    found: list[Any] = []
     for placed in program.marks:
         mark, node = placed.mark, placed.mark.node
         begin, end = (node.begin, node.end) if node else (0, 0)
@@ -99,7 +99,7 @@ def spans_of(program: Program) -> list:
     return found
 
 
-def listed(program: Program) -> list:
+def listed(program: Program) -> list[Any]:
     """The lines of a program with their slots."""
     found, slot = [], 0
     for line in program.lines:
@@ -108,7 +108,7 @@ def listed(program: Program) -> list:
     return found
 
 
-def map_of(policy: dict, listing: str) -> SlotMap:
+def map_of(policy: dict[str, Any], listing: str) -> SlotMap:
     """The map of a policy's program, which this is the listing of."""
     try:
         made = SlotMap(program_of(policy))
@@ -119,7 +119,7 @@ def map_of(policy: dict, listing: str) -> SlotMap:
     return made
 
 
-def parts_of(policy: Union[dict, str], program: Celbpf, document: Optional[dict] = None) -> SlotMap:
-    """The map of the program that a policy, or the file of one, is compiled to; `document` is what the file says."""
+def parts_of(policy: Union[dict[str, Any], str], program: Celbpf) -> SlotMap:
+    """The map of the program that a policy, or the file of one, is compiled to."""
     listing = program.run("list", program.compiled(policy)).stdout
-    return map_of(policy if isinstance(policy, dict) else document, listing)
+    return map_of(program.document(policy), listing)

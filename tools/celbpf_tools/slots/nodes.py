@@ -24,7 +24,7 @@ class Node:
     tree: Any
     begin: int
     end: int
-    parts: list = field(default_factory=list)
+    parts: list[Any] = field(default_factory=list)
 
 
 def paired(tree: Any, piece: Piece) -> Node:
@@ -41,3 +41,11 @@ def read(text: str) -> Node:
         return paired(macros.expand(grammar.read(text)), cut(text))
     except (Refused, NotCut) as why:
         raise NotRead from why
+
+
+def is_same(first: str, second: str) -> bool:
+    """Whether two texts have the same tree in the profile."""
+    try:
+        return first == second or grammar.read(first) == grammar.read(second)
+    except Refused:
+        return False

@@ -1,5 +1,7 @@
 """The fixed instructions of each construct: what is made of operands that are in their registers."""
 
+from typing import Any
+
 from .lines import Piece, code, ja, jump, lddw, load, mov, store
 
 NO, YES = 2, 3
@@ -20,27 +22,27 @@ def int_operands(offset: int) -> Piece:
     return code(*left, *right, *words)
 
 
-def checked(operation: str, below: str, above: str) -> list:
+def checked(operation: str, below: str, above: str) -> list[Any]:
     """A sum or a difference that is the error if it does not fit."""
     fits = [jump("slt", "r7", 0, 2), jump(above, "r1", "r6", 4), ja(1), jump(below, "r1", "r6", 2)]
     return [mov("r1", "r6"), f"{operation}64 r1, r7", *fits, *INT_ANSWER]
 
 
-def least_by_minus_one(way_on: int) -> list:
+def least_by_minus_one(way_on: int) -> list[Any]:
     """A jump over `way_on` slots for the least int and -1."""
     return [jump("ne", "r7", -1, 3), lddw("r2", LEAST), jump("eq", "r6", "r2", way_on)]
 
 
-def product() -> list:
+def product() -> list[Any]:
     begin = [mov("r1", "r6"), "mul64 r1, r7", jump("eq", "r7", 0, 7), *least_by_minus_one(5)]
     return begin + [mov("r2", "r1"), "sdiv64 r2, r7", jump("ne", "r2", "r6", 2), *INT_ANSWER]
 
 
-def divided(operation: str) -> list:
+def divided(operation: str) -> list[Any]:
     return [jump("eq", "r7", 0, 8), *least_by_minus_one(4), mov("r1", "r6"), f"{operation}64 r1, r7", *INT_ANSWER]
 
 
-def negation() -> list:
+def negation() -> list[Any]:
     kind = [mov("r1", "r6"), "call 1", jump("ne", "r0", INT_KIND, 9)]
     word = [mov("r1", "r6"), "call 2", mov("r1", "r0"), lddw("r2", LEAST), jump("eq", "r1", "r2", 3)]
     return kind + word + ["neg64 r1", *INT_ANSWER]

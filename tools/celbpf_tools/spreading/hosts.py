@@ -91,7 +91,7 @@ class Hosts:
 
     def __init__(self, folder: Path):
         self.folder = folder
-        self.running: dict[str, subprocess.Popen] = {}
+        self.running: dict[str, subprocess.Popen[bytes]] = {}
         self.made_separation = False
 
     @property

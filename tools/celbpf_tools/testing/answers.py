@@ -8,6 +8,8 @@ from pathlib import Path
 from typing import Any, Callable, Optional
 
 from ..asking.files import Files
+from ..asking.program import NotAnswered, Program
+from ..asking.translating import Translating
 from ..documents import Unreadable, json_fault, one_in
 from ..manifests.sending import object_sent
 from .cases import Case
@@ -42,7 +44,7 @@ def answer_of(text: str) -> Answer:
     return Answer(response["allowed"], response.get("status", {}).get("message", ""))
 
 
-def failures(case: Case, answer: Answer) -> list:
+def failures(case: Case, answer: Answer) -> list[Any]:
     """Why an answer is not the wanted one, a line each."""
     if case.refusal is not None:
         wanted = f"refused with {case.refusal}"
@@ -67,7 +69,7 @@ class Asked:
     def __init__(self, folder: Path):
         self.folder = folder
         self.files = Files(folder)
-        self.made: dict = {}
+        self.made: dict[str, Any] = {}
 
     def review(self, case: Case) -> str:
         """The text of a case's review."""
@@ -93,7 +95,7 @@ class Asked:
         path.write_text(text, encoding="utf-8")
         return str(path)
 
-    def words(self, case: Case) -> tuple:
+    def words(self, case: Case) -> tuple[Any, ...]:
         """The words that name the documents of a case, but for its review."""
         found = []
         for key, word in WORDS.items():
@@ -104,17 +106,20 @@ class Asked:
 
 
 class Programs:
-    """The programs; `find` gives the gatekeeper, which a case with a cluster needs and others use if it is there."""
+    """The programs; `find` gives the gatekeeper, which with the profile a case with a cluster needs and others use if
+    it is there.
+    """
 
-    def __init__(self, celbpf: Path, find: Callable[[bool], Optional[Path]], asked: Asked):
-        self.celbpf = celbpf
+    def __init__(self, program: Program, find: Callable[[bool], Optional[Path]], asked: Asked):
+        self.program = program
         self.gatekeeper = functools.cache(find)
         self.asked = asked
+        self.reading = () if isinstance(program, Translating) else ("--profile",)
 
-    def answers(self, cases: list) -> list:
+    def answers(self, cases: list[Any]) -> list[Any]:
         """The answer to each case, or the `Unreadable` that keeps it from one."""
-        found: list = [None] * len(cases)
-        groups: dict = {}
+        found: list[Any] = [None] * len(cases)
+        groups: dict[tuple[str, ...], list[tuple[int, str]]] = {}
         for place, case in enumerate(cases):
             try:
                 text = self.asked.review(case)
@@ -126,8 +131,8 @@ class Programs:
                 groups.setdefault(words, []).append((place, text))
             else:
                 found[place] = self.review(words, text)
-        for words, lines in groups.items():
-            for (place, _), answer in zip(lines, self.stream(words, [text for _, text in lines])):
+        for asked, lines in groups.items():
+            for (place, _), answer in zip(lines, self.stream(asked, [text for _, text in lines])):
                 found[place] = answer
         return found
 
@@ -136,20 +141,26 @@ class Programs:
         is_short = len(text.encode("utf-8", "surrogatepass")) < MOST_LINE
         return is_short and bool(text.strip()) and json_fault(text) is None and self.gatekeeper(False) is not None
 
-    def review(self, words: tuple, text: str) -> Answer:
-        """What `celbpf review` answers."""
-        ran = run([self.celbpf, "review", *words, "--review", self.asked.write("review.json", text)])
+    def review(self, words: tuple[Any, ...], text: str) -> Answer:
+        """What `celbpf review` answers, under the translation of the policy if it is translated."""
+        named = dict(zip(words[::2], words[1::2]))
+        try:
+            named["--policy"] = self.program.compilable(named["--policy"])
+        except NotAnswered as why:
+            return Answer(refusal=why.line)
+        words = tuple(word for pair in named.items() for word in pair)
+        ran = run([self.program.path, "review", *words, "--review", self.asked.write("review.json", text)])
         if ran.returncode in (0, 1):
             return answer_of(ran.stdout)
         return Answer(refusal=refusal_of(ran))
 
-    def stream(self, words: tuple, texts: list) -> list:
+    def stream(self, words: tuple[Any, ...], texts: list[Any]) -> list[Any]:
         """What one gatekeeper answers to reviews in a row."""
         gatekeeper = self.gatekeeper("--cluster" in words)
         if gatekeeper is None:
             return [Unreadable("a case with a cluster needs the program gatekeeper")] * len(texts)
         lines = "".join(text.replace("\r", " ").replace("\n", " ") + "\n" for text in texts)
-        ran = run([gatekeeper, *words], lines)
+        ran = run([gatekeeper, *words, *self.reading], lines)
         answers = ran.stdout.splitlines()
         if ran.returncode == 0 and len(answers) == len(texts):
             return [answer_of(line) for line in answers]
@@ -158,12 +169,12 @@ class Programs:
         return [Answer(refusal=refusal_of(ran))] * len(texts)
 
 
-def run(words: list, asked: str = "") -> subprocess.CompletedProcess:
+def run(words: list[Any], asked: str = "") -> subprocess.CompletedProcess[str]:
     """A run of a program."""
     return subprocess.run([str(word) for word in words], input=asked, capture_output=True, encoding="utf-8", check=False)
 
 
-def refusal_of(ran: subprocess.CompletedProcess) -> str:
+def refusal_of(ran: subprocess.CompletedProcess[str]) -> str:
     """The refusal on standard error; a policy's is told without the N1 of `review`."""
     said = ran.stderr.strip().removeprefix("celbpf: ")
     return said.removeprefix("N1 ") or f"status {ran.returncode} and no word"

@@ -29,7 +29,7 @@ class Case:
     name: str
     file: Path
     review: Any
-    beside: dict
+    beside: dict[str, Any]
     expect: Optional[str] = None
     message: Optional[str] = None
     contains: Optional[str] = None
@@ -41,10 +41,10 @@ class TestFile:
     """A test file with its cases."""
 
     path: Path
-    cases: list = field(default_factory=list)
+    cases: list[Any] = field(default_factory=list)
 
 
-def files_of(places: list) -> Iterator[Path]:
+def files_of(places: list[Any]) -> Iterator[Path]:
     """The test files: those that are named, and those in and below the folders that are."""
     for place in map(Path, places):
         if not place.is_dir():
@@ -71,7 +71,7 @@ def read(path: Path) -> TestFile:
     return TestFile(path, [case_of(path, place, one, shared) for place, one in enumerate(cases)])
 
 
-def case_of(path: Path, place: int, given: Any, shared: dict) -> Case:
+def case_of(path: Path, place: int, given: Any, shared: dict[str, Any]) -> Case:
     """The case at this place in the list."""
     where = f"case {place}"
     if not isinstance(given, dict):
@@ -100,7 +100,7 @@ def policy_beside(path: Path) -> str:
     return found[0]
 
 
-def review_of(where: str, given: dict) -> Any:
+def review_of(where: str, given: dict[str, Any]) -> Any:
     """The file of a case's review, or its parts."""
     parts = {key: given[key] for key in REVIEW if key in given}
     if "review" in given:
@@ -114,7 +114,7 @@ def review_of(where: str, given: dict) -> Any:
     return parts
 
 
-def wanted_of(where: str, given: dict, case: Case) -> None:
+def wanted_of(where: str, given: dict[str, Any], case: Case) -> None:
     """Puts what is wanted into a case."""
     for key in WANTED:
         setattr(case, key, given.get(key))

@@ -3,7 +3,7 @@
 import os
 import xml.etree.ElementTree as xml
 from dataclasses import dataclass, field
-from typing import BinaryIO, TextIO, Union
+from typing import Any, BinaryIO, TextIO, Union
 
 GREEN, RED, PLAIN = "\x1b[32m", "\x1b[31m", "\x1b[0m"
 
@@ -17,7 +17,7 @@ class Result:
 
     file: str
     name: str
-    failures: list = field(default_factory=list)
+    failures: list[Any] = field(default_factory=list)
     is_unread: bool = False
 
     @property
@@ -30,7 +30,7 @@ def one_line(text: str) -> str:
     return "".join(one if one.isprintable() else " " if one in "\n\t" else f"\\u{ord(one):04x}" for one in text)
 
 
-def tap(results: list, notes: list, out: TextIO) -> None:
+def tap(results: list[Any], notes: list[Any], out: TextIO) -> None:
     """Version 13 of the Test Anything Protocol; notes are comments."""
     print("TAP version 13", f"1..{len(results)}", sep="\n", file=out)
     for place, result in enumerate(results, 1):
@@ -47,7 +47,7 @@ def coloured(text: str, colour: str, out: TextIO) -> str:
     return f"{colour}{text}{PLAIN}" if out.isatty() and not os.environ.get("NO_COLOR") else text
 
 
-def lines(results: list, notes: list, out: TextIO) -> None:
+def lines(results: list[Any], notes: list[Any], out: TextIO) -> None:
     """A line for each file, and below it those cases that fail."""
     for file in dict.fromkeys(result.file for result in results):
         of_file = [result for result in results if result.file == file]
@@ -63,7 +63,7 @@ def lines(results: list, notes: list, out: TextIO) -> None:
         print(one_line(line), file=out)
 
 
-def junit(results: list, target: Union[str, BinaryIO]) -> None:
+def junit(results: list[Any], target: Union[str, BinaryIO]) -> None:
     """JUnit's XML, to a file or a stream: a suite for each file."""
     top = xml.Element("testsuites")
     for file in dict.fromkeys(result.file for result in results):

@@ -10,20 +10,20 @@ from ..manifests.sending import request_sent
 REVIEW = {"apiVersion": "admission.k8s.io/v1", "kind": "AdmissionReview"}
 
 
-def kind_of(thing: dict) -> dict:
+def kind_of(thing: dict[str, Any]) -> dict[str, Any]:
     """The group, the version and the kind of an object, as a request has them."""
     group, _, version = str(thing.get("apiVersion", "")).rpartition("/")
     return {"group": group, "version": version, "kind": thing.get("kind", "")}
 
 
-def operation_of(parts: dict) -> str:
+def operation_of(parts: dict[str, Any]) -> str:
     """The operation that objects speak of, if none is given."""
     if parts.get("object") is None:
         return "DELETE"
     return "CREATE" if parts.get("oldObject") is None else "UPDATE"
 
 
-def review_of_parts(parts: dict, uid: str, folder: Path) -> dict:
+def review_of_parts(parts: dict[str, Any], uid: str, folder: Path) -> dict[str, Any]:
     """A review of an object or an old one, which may be files, as an API server sends it; `request` adds more keys."""
     parts = {key: one_in(folder / value) if key in ("object", "oldObject") and isinstance(value, str) else value
              for key, value in parts.items()}

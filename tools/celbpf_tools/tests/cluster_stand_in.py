@@ -7,11 +7,13 @@ from pathlib import Path
 
 sys.path.insert(0, str(Path(__file__).resolve().parents[2]))
 
+from typing import Any
+
 from celbpf_tools.evaluator.cluster import response, starting, state  # noqa: E402
 from celbpf_tools.evaluator.refused import Refused  # noqa: E402
 
 
-def main(words: list) -> int:
+def main(words: list[Any]) -> int:
     is_wrong = words[:1] == ["--wrong"]
     names = [name for option, name in zip(words, words[1:]) if option == "--cluster"]
     try:

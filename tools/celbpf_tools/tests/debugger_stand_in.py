@@ -14,6 +14,7 @@ Under the name of an image that begins with `fault` it stops at slot 3 by F3 ins
 
 import sys
 from pathlib import Path
+from typing import Any, Callable
 
 LISTING = "mov64 r0, 1\ncall_local +2\nmov64 r0, 2\nexit\ncall 3\nexit\n"
 # of each step: pc, how many calls are open, how many values there are, and R0
@@ -30,9 +31,9 @@ class StandIn:
     def __init__(self, faults: bool):
         self.faults = faults
         self.shown = 0
-        self.breakpoints: set = set()
+        self.breakpoints: set[Any] = set()
 
-    def at(self, step: int) -> tuple:
+    def at(self, step: int) -> tuple[Any, ...]:
         return STEPS[min(step, len(STEPS) - 1)]
 
     def stops(self, step: int) -> bool:
@@ -65,7 +66,7 @@ class StandIn:
             return f"value {number} {VALUES.get(number, 'null')}\n" if known else "? range\n"
         if word == "rs" and number > self.shown:
             return "? range\n"
-        moves = {"s": lambda: self.move(self.shown + number), "rs": lambda: self.move(self.shown - number)}
+        moves: dict[str, Callable[[], str]] = {"s": lambda: self.move(self.shown + number), "rs": lambda: self.move(self.shown - number)}
         moves.update({"g": lambda: self.move(number), "c": lambda: self.go_on(number)})
         return moves[word]() if word in moves else "? what\n"
 

@@ -4,6 +4,7 @@ import os
 import threading
 import unittest
 from pathlib import Path
+from typing import Any
 
 from ..asking import files, texts
 from ..asking.splitter import NotCut, cut
@@ -12,7 +13,7 @@ from ..documents import Unreadable
 from . import test_documents
 
 
-def parts(text: str) -> list:
+def parts(text: str) -> list[Any]:
     """The texts of the parts of an expression."""
     return [text[part.begin : part.end] for part in cut(text).parts]
 

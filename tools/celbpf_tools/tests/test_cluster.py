@@ -23,11 +23,11 @@ ANNOTATION = "validation.policy.admission.k8s.io/validation_failure"
 BETA = request("Widget", ("x.io", "v1beta1", "widgets"), namespace="prod")
 
 
-def pod(**more: Any) -> dict:
+def pod(**more: Any) -> dict[str, Any]:
     return request("Pod", POD, **{"namespace": "prod", **more})
 
 
-def denies(**more: Any) -> list:
+def denies(**more: Any) -> list[Any]:
     """A policy that denies what it matches, and its binding."""
     return [policy(validations=FALSE, **more), binding()]
 
@@ -49,7 +49,7 @@ def annotated(text: str) -> str:
 
 
 class Cases(unittest.TestCase):
-    def check(self, items: list, given: dict, wanted: str, partial: bool = False) -> None:
+    def check(self, items: list[Any], given: dict[str, Any], wanted: str, partial: bool = False) -> None:
         """The answer under a state of these items and the namespace prod: what is wanted in `response`, or a whole line."""
         opened = state.opened([list_text([*items, PROD])], partial)
         whole = f'{{"apiVersion":"admission.k8s.io/v1","kind":"AdmissionReview","response":{{{wanted}}}}}'
@@ -194,13 +194,14 @@ class Answers(Cases):
                    f'"allowed":true,{annotated(escaped)},"uid":"u1"')
 
     def test_names(self) -> None:
-        for more, name in [
+        named: list[tuple[dict[str, Any], str]] = [
             ({"name": 'a"\\'}, 'a\\"\\\\'),
             ({"name": "", "object": {"metadata": {"generateName": "web-"}}}, "web-"),
             ({"name": "", "object": {"metadata": {"name": 1}}}, "Unknown"),
             ({"name": "", "object": {"spec": {}}}, "Unknown/errorGettingName"),
             ({"name": "", "operation": "DELETE"}, "Unknown"),
-        ]:
+        ]
+        for more, name in named:
             with self.subTest(name):
                 self.check(denies(), pod(**more), forbidden(name=name))
 
@@ -267,10 +268,10 @@ class Refusals(Cases):
         self.check(items, pod(), self.refused("C7", "a"), True)
 
     def test_blocked_policies(self) -> None:
-        matches = {"validations": [{"expression": "'a'.matches('a')"}]}
+        matches: dict[str, Any] = {"validations": [{"expression": "'a'.matches('a')"}]}
         self.check([policy(rules=[rule(["nodes"])], **matches), binding()], pod(), ALLOWED, True)
         self.check([policy(**matches), binding(matchResources={"resourceRules": [rule(["nodes"])]})], pod(), self.refused("C7"), True)
-        asked = {"matchConditions": [{"name": "c", "expression": "[1].all(x, namespaceObject == null)"}]}
+        asked: dict[str, Any] = {"matchConditions": [{"name": "c", "expression": "[1].all(x, namespaceObject == null)"}]}
         self.check([policy(**asked), binding()], pod(), self.refused("C7"), True)
         self.check([policy(paramKind=LIMITS), binding()], pod(), self.refused("C8"), True)
 
@@ -300,19 +301,23 @@ class States(unittest.TestCase):
                 self.assertEqual(self.of_items(PROD, item), "C2 1")
 
     def test_bindings(self) -> None:
-        for more in (
+        wrong: list[dict[str, Any]] = [
             {"policyName": ""}, {"validationActions": []}, {"validationActions": ["Deny", "Warn"]},
             {"validationActions": ["Audit", "Audit"]}, {"validationActions": ["deny"]}, {"paramRef": {"name": "x"}},
             {"paramRef": {"parameterNotFoundAction": "Deny"}}, {"matchResources": {"matchPolicy": "Some"}}, {"mode": "new"},
             {"matchResources": {"namespaceSelector": {"matchLabels": []}}},
             {"paramRef": {"name": "x", "selector": {}, "parameterNotFoundAction": "Deny"}},
-        ):
+        ]
+        for more in wrong:
             with self.subTest(more):
                 self.assertEqual(self.of_items(binding("b", "none", **more)), "C5 b")
 
     def test_policies(self) -> None:
         unbound = policy("q", rules=[])
-        for more in ({"rules": []}, {"constraints": {"scope": "*"}}, {"paramKind": {"kind": "ConfigMap"}}, {"rules": [{"scope": ""}]}):
+        wrong: list[dict[str, Any]] = [
+            {"rules": []}, {"constraints": {"scope": "*"}}, {"paramKind": {"kind": "ConfigMap"}}, {"rules": [{"scope": ""}]},
+        ]
+        for more in wrong:
             with self.subTest(more):
                 self.assertEqual(self.of_items(policy(**more), unbound, binding()), "C6 p")
 

@@ -6,6 +6,7 @@ import itertools
 import subprocess
 import sys
 import unittest
+from typing import Any
 from unittest import mock
 
 from ..clusters import large
@@ -24,7 +25,7 @@ ALLOWED = '{"apiVersion":"admission.k8s.io/v1","kind":"AdmissionReview","respons
 SPACE = thing("Namespace", "prod")
 
 
-def ran(status: int, said: str = "", told: str = "") -> subprocess.CompletedProcess:
+def ran(status: int, said: str = "", told: str = "") -> subprocess.CompletedProcess[bytes]:
     return subprocess.CompletedProcess([], status, said.encode(), told.encode())
 
 
@@ -85,7 +86,7 @@ class Large(unittest.TestCase):
 
 
 class Script(Files):
-    def ran(self, *words: str) -> tuple:
+    def ran(self, *words: str) -> tuple[Any, ...]:
         program = self.file("gatekeeper", f"#!/bin/sh\nexec {sys.executable} -B {cluster_stand_in.__file__} {' '.join(words)} \"$@\"\n")
         program.chmod(0o755)
         given = ["cluster-cases", "--count", "6", "--seed", "1", "--reviews", "5", str(program)]

@@ -1,7 +1,7 @@
 """The conformance data of cel-spec: its text format, what is in the profile, and how a case is decided."""
 
 import unittest
-from typing import Optional
+from typing import Any, Optional
 
 from ..conformance.cases import Case
 from ..conformance.lexis import reason as lexical_reason
@@ -18,14 +18,14 @@ def case_of(text: str) -> Case:
 class Decided(Runner):
     """A program that says the same to every policy, and decides every review by a table."""
 
-    def __init__(self, refusal: str, denials: dict):
+    def __init__(self, refusal: str, denials: dict[str, Any]):
         self.refusal = refusal
         self.denials = denials
 
-    def compiled(self, document: dict) -> str:
+    def compiled(self, document: dict[str, Any]) -> str:
         return self.refusal
 
-    def denial(self, policy_document: dict, review_document: dict) -> str:
+    def denial(self, policy_document: dict[str, Any], review_document: dict[str, Any]) -> str:
         return self.denials[policy_document["spec"]["failurePolicy"]]
 
 

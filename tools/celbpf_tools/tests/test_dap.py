@@ -16,6 +16,7 @@ from ..dap.arguments import Arguments, BadRequest
 from ..dap.breakpoints import Breakpoints
 from ..dap.child import Child, Ended, place_in
 from ..dap.code import Code
+from ..dap.launching import Given
 from ..dap.messages import BrokenMessage, BrokenStream, Connection
 from ..dap.motions import Motion, Run
 from ..entry import Stop
@@ -123,18 +124,18 @@ class Served(unittest.TestCase):
         for name in ("run.img", "fault.img"):
             (self.folder / name).write_bytes(IMAGE)
 
-    def raw(self, data: bytes) -> tuple[list, Optional[Stop]]:
+    def raw(self, data: bytes) -> tuple[list[Any], Optional[Stop]]:
         """The messages that the adapter writes for some input, and how it stops if not well."""
         given, target, stop = Input(data), io.BytesIO(), None
         try:
-            Adapter(given.source, target, str(self.program)).serve()
+            Adapter(given.source, target, Given(str(self.program), is_profile=True)).serve()
         except Stop as why:
             stop = why
         given.close()
         parts = target.getvalue().split(b"Content-Length: ")[1:]
         return [json.loads(part.split(b"\r\n\r\n", 1)[1]) for part in parts], stop
 
-    def asked(self, *requests: tuple, image: str = "run.img") -> list:
+    def asked(self, *requests: tuple[Any, ...], image: str = "run.img") -> list[Any]:
         """What is written for requests after a launch, without what the launch itself brings."""
         launch = [("launch", {"image": str(self.folder / image)}), ("configurationDone", {})]
         numbered = enumerate([*launch, *requests], 1)
@@ -144,20 +145,20 @@ class Served(unittest.TestCase):
         self.assertEqual([self.kind(one) for one in found[:4]], ["launch", "initialized", "configurationDone", "stopped entry"])
         return found[4:]
 
-    def kind(self, message: dict) -> str:
+    def kind(self, message: dict[str, Any]) -> str:
         """A message in a word or two."""
         if message["type"] == "response":
             return message["command"] if message["success"] else f"not {message['command']}"
         return f"stopped {message['body']['reason']}" if message["event"] == "stopped" else message["event"]
 
-    def body(self, *requests: tuple, image: str = "run.img") -> Any:
+    def body(self, *requests: tuple[Any, ...], image: str = "run.img") -> Any:
         """The body of the response to the last request."""
         found = [one for one in self.asked(*requests, image=image) if one["type"] == "response"]
         return found[-1].get("body")
 
 
 class Requests(Served):
-    def kinds(self, *requests: tuple, image: str = "run.img") -> list:
+    def kinds(self, *requests: tuple[Any, ...], image: str = "run.img") -> list[Any]:
         return [self.kind(one) for one in self.asked(*requests, image=image)]
 
     def test_a_request_while_a_move_is_made_waits_for_no_place(self) -> None:
@@ -232,7 +233,7 @@ class Moves(unittest.TestCase):
         """Slots 0 and 1 as one part, 2 and 3 as another, and the routine as a third."""
         return ["a", "a", "b", "b", "v", "v"][slot]
 
-    def made(self, motion: Motion) -> tuple:
+    def made(self, motion: Motion) -> tuple[Any, ...]:
         """Why a move stopped, and the step where it did."""
         try:
             while True:

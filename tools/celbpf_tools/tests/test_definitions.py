@@ -3,6 +3,7 @@
 import tempfile
 import unittest
 from pathlib import Path
+from typing import Any
 
 from ..commands.belief import CONTRACTS, rests_on
 from ..commands.defined_twice import places
@@ -95,7 +96,7 @@ class DefinedTwice(unittest.TestCase):
         self.addCleanup(folder.cleanup)
         self.crates = Path(folder.name)
 
-    def found(self, one: str, two: str) -> dict:
+    def found(self, one: str, two: str) -> dict[str, Any]:
         for name, text in ("a/specs/One.antt", one), ("b/specs/deep/Two.antt", two):
             path = self.crates / name
             path.parent.mkdir(parents=True, exist_ok=True)

@@ -49,7 +49,7 @@ class Documents(Files):
             self.assertEqual(documents.one_in(self.file("a.json", "[1]")), [1])
 
 
-@unittest.skipIf(documents.yaml is None, "PyYAML is not installed")
+@unittest.skipIf(documents.yaml_package() is None, "PyYAML is not installed")
 class Yaml(Files):
     def test_texts_that_look_like_dates_and_times(self) -> None:
         path = self.file("a.yaml", "a: 2026-11-26\nb: 1:30\nc: 0x10\nd: 1.5\ne: true\n")
@@ -68,7 +68,7 @@ class Yaml(Files):
 
     def test_a_map_that_aliases_repeat_is_read_once(self) -> None:
         lines = ["a0: &a0 {x: 1}", *(f"a{n}: &a{n} [*a{n - 1}, *a{n - 1}]" for n in range(1, 60))]
-        node = documents.yaml.compose("\n".join(lines), documents.loader())
+        node = documents.yaml_package().compose("\n".join(lines), documents.loader())
         documents.refuse_repeated(node)
 
     def test_several_documents(self) -> None:

@@ -5,6 +5,7 @@ import subprocess
 import tempfile
 import unittest
 from pathlib import Path
+from typing import Any
 
 from ..embedding.building import installed, made, needed
 from ..embedding.callers import missing, run
@@ -17,16 +18,18 @@ STAND_IN = """
 void *rattle_alloc(size_t size, size_t align);
 void *other(void) { return rattle_alloc(1, 1); }
 uint32_t celbpf_gate_new(void) { return other() != 0; }
+uint32_t celbpf_gate_new_wide(void) { return 0; }
 uint32_t celbpf_gate_decide(void) { return 0; }
 uint32_t celbpf_gate_decide_within(void) { return 0; }
 void celbpf_gate_free(void) {}
 uint32_t celbpf_review(void) { return 0; }
 uint32_t celbpf_review_within(void) { return 0; }
+uint32_t celbpf_review_wide(void) { return 0; }
 uint32_t celbpf_compile(void) { return 0; }
 """
 
 
-def names(*words) -> set:
+def names(*words: Any) -> set[Any]:
     """The global names that nm lists."""
     listed = subprocess.run(["nm", "--defined-only", "--extern-only", *words], capture_output=True, text=True, check=True).stdout
     return {line.split()[-1] for line in listed.splitlines() if len(line.split()) == 3}
@@ -45,8 +48,9 @@ class Building(unittest.TestCase):
         made(self.folder / "stand_in.a", self.folder / "dist")
 
     def test_names(self) -> None:
-        calls = ("gate_new", "gate_decide", "gate_decide_within", "gate_free", "review", "review_within", "compile")
-        wanted = {"celbpf_stack_left"} | {f"celbpf_{call}{form}" for call in calls for form in ("", "_checked")}
+        calls = ("gate_new", "gate_new_wide", "gate_decide", "gate_decide_within", "gate_free")
+        alone = ("review", "review_within", "review_wide", "compile")
+        wanted = {"celbpf_stack_left"} | {f"celbpf_{call}{form}" for call in (*calls, *alone) for form in ("", "_checked")}
         library = self.folder / "dist" / "lib"
         self.assertEqual(names(library / "libcelbpf.a"), wanted)
         self.assertEqual(names("-D", library / "libcelbpf.so"), wanted)

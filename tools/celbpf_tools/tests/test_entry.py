@@ -5,7 +5,7 @@ import io
 import subprocess
 import unittest
 from pathlib import Path
-from typing import Callable
+from typing import Any, Callable
 from unittest.mock import patch
 
 from .. import entry
@@ -31,7 +31,7 @@ def raising(error: BaseException) -> Callable[[], int]:
 
 
 class Ends(unittest.TestCase):
-    def told(self, command: Callable) -> tuple:
+    def told(self, command: Callable[..., Any]) -> tuple[Any, ...]:
         with contextlib.redirect_stderr(io.StringIO()) as said:
             return ended("script", command), said.getvalue()
 

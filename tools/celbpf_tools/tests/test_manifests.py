@@ -5,6 +5,7 @@ import io
 import json
 import sys
 import unittest
+from typing import Any
 from unittest import mock
 
 from .. import documents
@@ -50,14 +51,14 @@ items:
 class Ran(Files):
     """Tests that run the script."""
 
-    def ran(self, *words: object) -> tuple:
+    def ran(self, *words: object) -> tuple[Any, ...]:
         """Its status and both outputs."""
         said, errors = io.StringIO(), io.StringIO()
         with mock.patch.object(sys, "argv", ["as-reviews", *map(str, words)]):
             with contextlib.redirect_stdout(said), contextlib.redirect_stderr(errors):
                 return ended("as-reviews", as_reviews.main), said.getvalue(), errors.getvalue().replace(f"{self.folder}/", "")
 
-    def requests(self, *words: object) -> list:
+    def requests(self, *words: object) -> list[Any]:
         status, said, errors = self.ran(*words)
         self.assertEqual((status, errors), (0, ""))
         return [json.loads(line)["request"] for line in said.splitlines()]
@@ -87,7 +88,7 @@ class Making(Ran):
     def test_a_user(self) -> None:
         node = self.file("node.json", NODE)
         self.assertNotIn("userInfo", self.requests(node)[0])
-        for user, given, groups in [
+        users: list[tuple[str, list[str], list[str]]] = [
             ("ann", [], ["system:authenticated"]),
             ("ann", ["dev", "ops"], ["dev", "ops", "system:authenticated"]),
             ("ann", ["system:authenticated", "dev"], ["system:authenticated", "dev"]),
@@ -97,15 +98,17 @@ class Making(Ran):
             ("system:serviceaccount:shop:web", [],
              ["system:serviceaccounts", "system:serviceaccounts:shop", "system:authenticated"]),
             ("system:serviceaccount:shop:web", ["dev"], ["dev", "system:authenticated"]),
-        ]:
+        ]
+        for user, given, groups in users:
             with self.subTest(user=user, given=given):
                 words = [word for group in given for word in ("--group", group)]
                 request = self.requests("--user", user, *words, node)[0]
                 self.assertEqual(request["userInfo"], {"username": user, "groups": groups})
 
     def test_empty_values_are_left_out(self) -> None:
-        metadata = {"name": "shop", "labels": {}, "annotations": {}, "finalizers": [], "generateName": "", "ownerReferences": None}
-        space = {"apiVersion": "v1", "kind": "Namespace", "metadata": metadata, "spec": {"finalizers": []}}
+        empty = {"labels": {}, "annotations": {}, "finalizers": [], "generateName": "", "ownerReferences": None}
+        metadata: dict[str, Any] = {"name": "shop", **empty}
+        space: dict[str, Any] = {"apiVersion": "v1", "kind": "Namespace", "metadata": metadata, "spec": {"finalizers": []}}
         old = {**space, "metadata": {**metadata, "labels": {"a": ""}}}
         created = self.requests(self.file("space.json", json.dumps(space)))[0]
         self.assertEqual(created["object"], {**space, "metadata": {"name": "shop"}})
@@ -126,7 +129,7 @@ class Making(Ran):
         with_definition = self.requests(team, self.file("definition.json", DEFINITION))
         self.assertEqual([one["kind"]["kind"] for one in with_definition], ["Team", "CustomResourceDefinition"])
 
-    @unittest.skipIf(documents.yaml is None, "PyYAML is not installed")
+    @unittest.skipIf(documents.yaml_package() is None, "PyYAML is not installed")
     def test_yaml_of_several_documents(self) -> None:
         space, job = self.requests(self.file("all.yaml", MANIFEST))
         self.assertEqual((space["resource"]["resource"], space["name"], space["namespace"]), ("namespaces", "shop", "shop"))
@@ -193,7 +196,7 @@ class Tables(unittest.TestCase):
         ]:
             with self.subTest(kind):
                 found = resources.of({"apiVersion": version, "kind": kind})
-                self.assertEqual((found.plural, found.namespaced), (plural, namespaced))
+                self.assertEqual(found and (found.plural, found.namespaced), (plural, namespaced))
         self.assertIsNone(resources.of({"apiVersion": "extensions/v1beta1", "kind": "Deployment"}))
 
     def test_lists_of_one_kind(self) -> None:

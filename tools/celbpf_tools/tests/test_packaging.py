@@ -12,6 +12,7 @@ from ..packaging import archives, manual
 from ..packaging.checking import text_faults
 from ..packaging.completion import COMMANDS, bash, zsh
 from ..packaging.pages import linked, renamed, without_sections
+from ..packaging.rooted import contents
 from ..packaging.tree import doc_of
 
 PAGE = """# Title
@@ -53,6 +54,7 @@ class Manual(unittest.TestCase):
         for text, named in [
             ("`./celbpf a`", "`celbpf a`"), ("tools/why <examples/b", "celbpf-why </usr/share/doc/celbpf/examples/b"),
             ("`tools/measure 1` takes", "`measure 1` of the repository takes"), ("cd ../examples", "cd ../examples"),
+            ("in PREFIX/share/celbpf", "in /usr/share/celbpf"),
         ]:
             with self.subTest(text):
                 self.assertEqual(renamed(text), named)
@@ -63,6 +65,9 @@ class Package(unittest.TestCase):
     @unittest.skipUnless(is_checkout(), "the sources are in the repository")
     def test_version(self) -> None:
         self.assertRegex(archives.version_of(), r"^0\.20\d{6}$")
+        # the date of the newest changes, which `./gatekeeper --version` prints
+        dates = [line[3:] for line in (ROOT / "CHANGELOG.md").read_text().splitlines() if line.startswith("## ")]
+        self.assertEqual(archives.version_of(), f"0.{dates[0].replace('-', '')}")
         with tempfile.TemporaryDirectory() as folder:
             program = Path(folder, "gatekeeper")
             for said, why in [("gatekeeper 0.1", "is gatekeeper 0.1"), ("", "is of no version")]:
@@ -86,9 +91,9 @@ class Package(unittest.TestCase):
         self.assertTrue(zsh().startswith("#compdef celbpf gatekeeper vapctl kubectl-vap celbpf-why "))
         for text in (bash(), zsh()):
             self.assertIn("celbpf-as-reviews) echo '--cluster --old --namespace --user --group --skip-unknown'", text)
-            self.assertIn("    vapctl) echo 'check audit state test why debug lint compile' ;;", text)
+            self.assertIn("    vapctl) echo 'check audit state test why debug lint compile translate' ;;", text)
             self.assertIn("'kubectl-vap state') echo '--help --from --to --context --kubeconfig --kubectl' ;;", text)
-            self.assertRegex(text, "gatekeeper\\) echo '--policy .*--cluster --partial --leave-messages --help --version'")
+            self.assertRegex(text, "gatekeeper\\) echo '--policy .*--cluster --partial --leave-messages --translate --help --version'")
 
     @unittest.skipUnless(is_checkout(), "the pages are in the repository")
     def test_completion_has_the_commands_of_the_page(self) -> None:
@@ -106,6 +111,21 @@ class Package(unittest.TestCase):
 
     def test_links_that_lead_to_nothing(self) -> None:
         with tempfile.TemporaryDirectory() as folder:
-            Path(folder, "A.md").write_text("# A `b`\n[x](A.md#a-b) [y](#c) [z](B.md) [w](http://a)\nrun tools/x or ./y, ../z\nin this repository")
+            Path(folder, "A.md").write_text("# A `b`\n[x](A.md#a-b) [y](#c) [z](B.md) [w](http://a)\nrun tools/x or ./y, ../z\nin this repository\ninto PREFIX/lib")
             found = [line.removeprefix(f"{folder}/A.md: ") for line in text_faults(Path(folder))]
-            self.assertEqual(found, ["run tools/x or ./y, ../z", "in this repository", "#c leads to nothing", "B.md# leads to nothing"])
+            self.assertEqual(found, ["run tools/x or ./y, ../z", "in this repository", "into PREFIX/lib", "#c leads to nothing", "B.md# leads to nothing"])
+
+    def test_contents_of_a_root(self) -> None:
+        with tempfile.TemporaryDirectory() as folder:
+            root = Path(folder)
+            for name in ("usr/bin", "var/lib/dpkg/info", "var/log"):
+                (root / name).mkdir(parents=True)
+            (root / "usr" / "bin" / "a").write_text("a")
+            before = contents(root)
+            self.assertEqual(sorted(before), ["usr", "usr/bin", "usr/bin/a", "var", "var/lib"])
+            (root / "var" / "lib" / "dpkg" / "info" / "list").write_text("of dpkg")
+            self.assertEqual(contents(root), before)
+            (root / "usr" / "bin" / "a").chmod(0o700)
+            (root / "usr" / "bin" / "b").symlink_to("a")
+            after = contents(root)
+            self.assertEqual({path for path in after if after[path] != before.get(path)}, {"usr/bin/a", "usr/bin/b"})

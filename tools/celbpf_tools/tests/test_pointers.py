@@ -3,6 +3,7 @@
 import tempfile
 import unittest
 from pathlib import Path
+from typing import Any
 
 from ..commands.pointers import faults
 
@@ -31,7 +32,7 @@ class Pointers(unittest.TestCase):
         self.addCleanup(folder.cleanup)
         self.root = Path(folder.name)
 
-    def found(self, **other: str) -> list:
+    def found(self, **other: str) -> list[Any]:
         for name, text in {**FILES, **other}.items():
             path = self.root / name
             path.parent.mkdir(parents=True, exist_ok=True)

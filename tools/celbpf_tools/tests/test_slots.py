@@ -3,6 +3,7 @@
 import json
 import re
 import unittest
+from typing import Any
 
 from ..home import EXAMPLES, ROOT
 from ..slots.layout import program_of
@@ -26,12 +27,12 @@ def mapped(**spec: object) -> SlotMap:
     return SlotMap(program_of({"spec": spec}))
 
 
-def shown(spans: list) -> list:
+def shown(spans: list[Any]) -> list[Any]:
     """The slots, the text and the register of each span."""
     return [(span.first, span.last, span.text, span.register) for span in spans]
 
 
-def listing_of_the_page() -> list:
+def listing_of_the_page() -> list[Any]:
     """The listing of the page on code."""
     page = (ROOT / "docs" / "CODE.md").read_text()
     block = re.search(r"(?:^    .+\n)+", page, re.MULTILINE)
@@ -41,7 +42,7 @@ def listing_of_the_page() -> list:
 class Expressions(unittest.TestCase):
     """Sub-expressions in the code of one validation."""
 
-    def begins_with(self, text: str, listing: list) -> None:
+    def begins_with(self, text: str, listing: list[Any]) -> None:
         """The code of the policy with this one validation begins with the listing."""
         lines = list(mapped(validations=[{"expression": text}]).lines.values())
         self.assertTrue(listing)
@@ -110,7 +111,7 @@ class Policies(unittest.TestCase):
         ]
         self.assertEqual(roles, expected)
         # from the slot after the call, 33, it goes back to slot 1
-        self.assertEqual((spans.lines[32], spans.at(32).text), ("call_local -32", "variables.n"))
+        self.assertEqual((spans.lines[32], getattr(spans.at(32), "text", "")), ("call_local -32", "variables.n"))
 
     def test_ignored_errors(self) -> None:
         lines = mapped(failurePolicy="Ignore", validations=TRUE).lines

@@ -2,11 +2,12 @@
 
 import io
 import json
-import unittest
 import xml.etree.ElementTree as xml
 from pathlib import Path
+from typing import Any
 
 from ..asking.policies import whole
+from ..asking.program import Program
 from ..testing import output
 from ..testing.answers import Answer, Asked, Programs, answer_of, failures
 from ..testing.cases import Broken, read
@@ -52,7 +53,6 @@ class Reading(Files):
             "name": "web", "namespace": "shop", "object": thing, "dryRun": True,
         })
 
-
     def test_empty_values_that_an_api_server_leaves_out(self) -> None:
         user = {"username": "", "uid": "", "groups": [], "extra": {}}
         more = {"userInfo": user, "subResource": "", "name": "", "namespace": "", "requestSubResource": "", "dryRun": False}
@@ -69,7 +69,7 @@ class Reading(Files):
 
 
 class Wanted(Files):
-    def case(self, wanted: str):
+    def case(self, wanted: str) -> Any:
         return read(self.file("tests.json", '{"policy": "p", "cases": [{"object": {}, %s}]}' % wanted)).cases[0]
 
     def test_what_is_wanted_of_an_answer(self) -> None:
@@ -91,12 +91,12 @@ class Wanted(Files):
         self.assertEqual(answer_of('{"response":{"allowed":true,"uid":"u"}}'), Answer(True))
 
     def test_only_a_cluster_has_the_gatekeeper_built(self) -> None:
-        asked: list = []
+        asked: list[Any] = []
 
         def find(builds: bool) -> None:
             asked.append(builds)
 
-        programs = Programs(Path("celbpf"), find, Asked(self.folder))
+        programs = Programs(Program(Path("celbpf"), str(self.folder)), find, Asked(self.folder))
         self.assertFalse(programs.is_line("{}"))
         self.assertEqual(asked, [False])
         programs.stream(("--cluster", "state.json"), ["{}"])
@@ -142,3 +142,21 @@ class Told(Files):
         ])
         self.assertEqual(questions[1].needs, ("(a).all(x, true)",))
         self.assertEqual(states(["verdict 3 1", "validation 1 2"], 2), ["true", "an error"])
+
+    def test_coverage_questions_of_optionals_and_pairs(self) -> None:
+        for text, due, needed in [
+            ("o.optMap(x, x ? y : z)", [
+                "(o).optMap(x, (x)).orValue(false)", "(o).optMap(x, !(x)).orValue(false)",
+                "(o).optMap(x, ((x) || !(x))).orValue(true)",
+            ], "(o).hasValue()"),
+            ("m.all(k, v, v ? y : z)", [
+                "(m).exists(k, v, (v))", "(m).exists(k, v, !(v))", "(m).all(k, v, ((v) || !(v)))",
+            ], "(m).all(k, true)"),
+            ("o.orValue(c ? y : z)", [
+                "(!(o).hasValue() && (c))", "(!(o).hasValue() && !(c))", "(!!(o).hasValue() || ((c) || !(c)))",
+            ], "!(o).hasValue()"),
+        ]:
+            with self.subTest(text):
+                _, questions = items_of(whole({"validations": [{"expression": text}]}))
+                self.assertEqual([question.text for question in questions[1:]], due)
+                self.assertEqual(questions[1].needs, (needed,))

@@ -5,6 +5,7 @@ import os
 import sys
 import unittest
 from pathlib import Path
+from typing import Any
 from unittest import mock
 
 from .. import documents
@@ -47,7 +48,7 @@ OBJECT = '{"apiVersion": "v1", "kind": "Node", "metadata": {"name": "%s"}}\n'
 class Read(Files):
     """Tests that read inputs."""
 
-    def read(self, *words: object) -> tuple:
+    def read(self, *words: object) -> tuple[Any, ...]:
         """The objects with their places, and the troubles."""
         inputs = Inputs()
         things = inputs.things(map(str, words))
@@ -91,7 +92,7 @@ class Json(Read):
         self.assertEqual(self.read(self.file("a.json", one % ("List", "[]"))), ([], []))
 
 
-@unittest.skipIf(documents.yaml is None, "PyYAML is not installed")
+@unittest.skipIf(documents.yaml_package() is None, "PyYAML is not installed")
 class Yaml(Read):
     def test_documents_and_lists(self) -> None:
         wanted = ["a.yaml:2 ConfigMap dev/a", "a.yaml:10 ConfigMap b", "a.yaml:11 ConfigMap c", "a.yaml:17 Node d"]
@@ -111,7 +112,8 @@ class Yaml(Read):
     def test_faults(self) -> None:
         for text, told in (
             ("a: [1\nb: 2\n", r"a.yaml:2: .* at column 2"),
-            ("{{ template }}: a\n", "a.yaml:1: found unhashable key at column ."),
+            ("{{ template }}: a\n", "a.yaml:1: found unhashable key at column .; if it is a template of a chart, give what `helm template` prints"),
+            ("{{a: 1}: a}\n", "a.yaml:1: found unhashable key at column ."),
             ("just a text\n", "a.yaml:1: it is not an object"),
             ("a: &a [*a]\n", "a.yaml: a value has itself as a part, by an alias"),
             ("a: !!python/object:os.system x\n", "a.yaml:1: could not determine a constructor for the tag .* at column 4"),

@@ -36,7 +36,7 @@ class Paths(unittest.TestCase):
         self.assertEqual(path_of_key("spec.validations[12].mesage"), ("spec", "validations", 12, "mesage"))
         self.assertEqual(path_of_key("[]"), ())
 
-    @unittest.skipIf(documents.yaml is None, "PyYAML is not installed")
+    @unittest.skipIf(documents.yaml_package() is None, "PyYAML is not installed")
     def test_places_of_keys(self) -> None:
         marks = Marks(POLICIES)
         for line, key, place in (

@@ -2,6 +2,7 @@
 
 import math
 import unittest
+from typing import Any
 
 from ..vapctl.numbers import NotJson, sent, undecided_numbers
 from ..vapctl.quantities import canonical, quantity_of, write_quantities
@@ -36,8 +37,8 @@ class Quantities(unittest.TestCase):
             self.assertEqual(canonical(given), given)
 
     def test_paths_of_built_in_kinds(self) -> None:
-        container = {"name": "c", "resources": {"limits": {"cpu": 0.5, "memory": "1024Mi"}, "requests": {"cpu": 1}}}
-        pod = {"apiVersion": "v1", "kind": "Pod", "spec": {"containers": [container, "no map"], "overhead": {"cpu": 0.25}}}
+        container: dict[str, Any] = {"name": "c", "resources": {"limits": {"cpu": 0.5, "memory": "1024Mi"}, "requests": {"cpu": 1}}}
+        pod: dict[str, Any] = {"apiVersion": "v1", "kind": "Pod", "spec": {"containers": [container, "no map"], "overhead": {"cpu": 0.25}}}
         write_quantities(pod)
         self.assertEqual(container["resources"], {"limits": {"cpu": "500m", "memory": "1Gi"}, "requests": {"cpu": "1"}})
         self.assertEqual(pod["spec"]["overhead"], {"cpu": "250m"})
@@ -45,17 +46,18 @@ class Quantities(unittest.TestCase):
             "volumes": [{"emptyDir": {"sizeLimit": 1e9}}]}}}}}}
         write_quantities(job)
         self.assertIn("'sizeLimit': '1G'", str(job))
-        quota = {"apiVersion": "v1", "kind": "ResourceQuota", "spec": {"hard": {"pods": 10, "cpu": True, "memory": None}}}
+        quota: dict[str, Any] = {"apiVersion": "v1", "kind": "ResourceQuota", "spec": {"hard": {"pods": 10, "cpu": True, "memory": None}}}
         write_quantities(quota)
         self.assertEqual(quota["spec"]["hard"], {"pods": "10", "cpu": True, "memory": None})
 
     def test_other_kinds_and_forms_stay(self) -> None:
-        for thing in (
+        things: list[dict[str, Any]] = [
             {"apiVersion": "x.io/v1", "kind": "Pod", "spec": {"overhead": {"cpu": 0.5}}},
             {"apiVersion": "v1", "kind": "Pod", "spec": {"overhead": 0.5, "containers": {"a": 1}}},
             {"apiVersion": "v1", "kind": "Pod", "spec": None},
             {"apiVersion": "v1", "kind": "Pod", "spec": {"overhead": {"cpu": math.inf, "memory": math.nan, "x": 10**400}}},
-        ):
+        ]
+        for thing in things:
             before = str(thing)
             write_quantities(thing)
             self.assertEqual(str(thing), before)

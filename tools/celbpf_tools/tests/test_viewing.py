@@ -41,22 +41,22 @@ def slots_of(text: str) -> SlotMap:
     return SlotMap(program_of({"spec": {"validations": [{"expression": text}]}}))
 
 
-def recording(named: dict) -> Recording:
+def recording(named: dict[str, Any]) -> Recording:
     """The run of the expression with the references that some helpers answer."""
     states = []
     for pc, *words in ROWS:
-        given = [named.get(word, word) for word in words]
+        given = [named.get(str(word), word) for word in words]
         states.append(State(pc, "running", (*given, 0, 0, 0, 0, 0, 0, BOTTOM), ()))
     return Recording(states, 30, [], {9: (BOTTOM - 8, named["field"])}, dict(VALUES))
 
 
-def of(slots: SlotMap, text: str, reference: int, parts: tuple = (), turns: tuple = ()) -> Evaluation:
+def of(slots: SlotMap, text: str, reference: int, parts: tuple[Any, ...] = (), turns: tuple[Any, ...] = ()) -> Evaluation:
     """An evaluation of the last sub-expression with this text."""
     span = next(one for one in reversed(slots.spans) if one.text == text and one.role == "expression")
     return Evaluation(span, 1, reference, list(parts), list(turns))
 
 
-def texts(found: Any) -> list:
+def texts(found: Any) -> list[Any]:
     return [one.span.text for one in found]
 
 
@@ -66,7 +66,7 @@ class Runs(unittest.TestCase):
     def setUp(self) -> None:
         self.slots = slots_of(TEXT)
 
-    def walk(self, named: dict) -> Walk:
+    def walk(self, named: dict[str, Any]) -> Walk:
         return walked(self.slots, recording(named))
 
     def test_arrivals(self) -> None:
@@ -174,7 +174,7 @@ class Deciding(unittest.TestCase):
 class Reviews(unittest.TestCase):
     """What was read, as it is marked in the review."""
 
-    def shown(self, paths: set, missing: set, value: dict) -> str:
+    def shown(self, paths: set[Any], missing: set[Any], value: dict[str, Any]) -> str:
         reads = Reads({})
         reads.paths, reads.missing = paths | missing, missing
         return Review(reads).all({4: json.dumps(value)})
@@ -220,7 +220,7 @@ class Writing(unittest.TestCase):
         self.assertIn("default-src &#x27;none&#x27;", rule)
 
     def test_files(self) -> None:
-        given = {"policy": "p", "review": "r", "namespace": None, "params": "q", "case": None}
+        given: dict[str, Any] = {"policy": "p", "review": "r", "namespace": None, "params": "q", "case": None}
         self.assertEqual(files(argparse.Namespace(**given)), ["p", "r", "params q"])
         # the documents of a case are files that do not outlive the script
         asked = {**given, "policy": "/tmp/x/p", "case": "five", "tests": "t.yaml"}

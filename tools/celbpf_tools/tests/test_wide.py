@@ -9,14 +9,14 @@ from ..evaluator.values import ERROR
 from ..wide.expression import Scope, taken, variable
 from ..wide.meaning import Meaning
 
-OBJECT: dict = {
+OBJECT: dict[str, Any] = {
     "metadata": {"name": "web", "labels": {"app": "shop", "team/a": "x"}},
     "spec": {
         "replicas": 3, "paused": False, "note": None, "image": "reg.io/app:1.2", "cpu": "250m",
         "args": ["-v", "--x=1"], "ports": [{"name": "http", "port": 80}, {"port": 443}], "sel": {},
     },
 }
-ROOTS: dict = {
+ROOTS: dict[str, Any] = {
     "object": OBJECT,
     "oldObject": None,
     "params": {"max": 5, "res": ["^reg\\.io/"], "mem": "1Gi"},

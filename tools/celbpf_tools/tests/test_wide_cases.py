@@ -10,7 +10,7 @@ from unittest import mock
 
 from ..commands import wide_cases
 from ..entry import ended
-from ..evaluator import grammar, macros, responses, reviews
+from ..evaluator import grammar, macros, responses, reviews, verdicts
 from ..evaluator.costs import Costs
 from ..evaluator.meaning import Meaning as Profile
 from ..evaluator.refused import Refused
@@ -33,7 +33,7 @@ def policy_of(**spec: Any) -> policies.WidePolicy:
     return policies.read({**API, "spec": spec})
 
 
-def annotated(expression: str, failure: str = "Fail", params: tuple = (None,)) -> tuple:
+def annotated(expression: str, failure: str = "Fail", params: tuple[Any, ...] = (None,)) -> tuple[Any, ...]:
     """What an annotation `r` gives over these params."""
     policy = policy_of(failurePolicy=failure, auditAnnotations=[{"key": "r", "valueExpression": expression}])
     return policies.annotated(policy, [{**ROOTS, "params": one} for one in params])
@@ -48,7 +48,7 @@ ANNOTATIONS = [
     ("'\\u2028é\\t'", [], {"r": "é"}),
 ]
 # a specification, and its refusal
-REFUSED: list[tuple[dict, str]] = [
+REFUSED: list[tuple[dict[str, Any], str]] = [
     ({}, "K4"),
     ({"auditAnnotations": [{"key": "r"}]}, "K3"),
     ({"auditAnnotations": [{"key": "r", "valueExpression": "object.spec.image"}]}, "K9"),
@@ -88,13 +88,13 @@ TRANSLATIONS = [
     ("object.m.first().orValue(object.k)",
      "[[object.m + []].map(w1, w1 == [] ? [] : [w1[0]])[0]].map(w2, w2 == [] ? object.k : w2[0])[0]"),
 ]
-PARTS: list = [
+PARTS: list[Any] = [
     None, True, False, 0, 1, 2, -1, "", "a", "a-b", [], [1], ["a", ""], [None, 2], {}, {"a": 1}, {"a-b": ""},
     {"a": None},
 ]
 
 
-def partly(numbers: Numbers, names: str) -> dict:
+def partly(numbers: Numbers, names: str) -> dict[str, Any]:
     """A map of some of these names to any of PARTS."""
     return {name: numbers.pick(PARTS) for name in names if not numbers.one_in(6)}
 
@@ -161,11 +161,11 @@ class Policies(unittest.TestCase):
         conditions = [{"name": "a", "expression": "namespaceObject == null"}]
         policy = policy_of(matchConditions=conditions, validations=[{"expression": "false"}])
         outcome = policies.verdict_of(policy, {**ROOTS, "namespaceObject": {}}).outcome
-        self.assertEqual(outcome, policies.verdicts.DENIED)
+        self.assertEqual(outcome, verdicts.DENIED)
 
 
 class Script(Files):
-    def ran(self, *words: str, count: int = 5) -> tuple:
+    def ran(self, *words: str, count: int = 5) -> tuple[Any, ...]:
         command = [sys.executable, "-B", wide_stand_in.__file__, *words]
         program = self.file("gatekeeper", f'#!/bin/sh\nexec {" ".join(command)} "$@"\n')
         program.chmod(0o755)
@@ -183,7 +183,6 @@ class Script(Files):
         self.assertEqual(status, 1)
         self.assertRegex(said, r"^case \d+ of seed 1 differs\nexpression ")
         self.assertRegex(said, r"review \d: \{.*\ndue \{")
-
 
     def test_an_expression_that_is_taken_though_a_refusal_is_due(self) -> None:
         program = self.file("gatekeeper", "#!/bin/sh\n")

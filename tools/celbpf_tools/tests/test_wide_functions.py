@@ -3,6 +3,7 @@
 import json
 import sys
 import unittest
+from typing import Any
 
 from ..entry import DEEPEST
 from ..evaluator.refused import Refused
@@ -135,14 +136,14 @@ ROWS: dict[str, list[tuple[str, str]]] = {
     ],
 }
 # variables, an expression and its value
-WITH_VARIABLES: list[tuple[dict, str, str]] = [
+WITH_VARIABLES: list[tuple[dict[str, Any], str, str]] = [
     ({"q": "quantity(object.spec.cpu)"}, "variables.q.isLessThan(quantity('1'))", "true"),
     ({"o": "object.spec.?none"}, "variables.o.orValue(0)", "0"),
     ({"d": "duration('1h')", "e": "variables.d + variables.d"}, "variables.e.getHours()", "2"),
     ({"v": "object.none"}, "variables.v in []", "false"),
 ]
 # variables, an expression and its refusal
-REFUSED_WITH_VARIABLES: list[tuple[dict, str, str]] = [
+REFUSED_WITH_VARIABLES: list[tuple[dict[str, Any], str, str]] = [
     ({"q": "quantity('1')"}, "sign(variables.q)", "W9 at 5"),
     ({"q": "quantity('1')"}, "variables.q.isInteger()", "W9 at 0"),
     ({"t": "timestamp('2026-03-01T00:00:00Z')"}, "variables.t.getHours()", "W9 at 0"),
@@ -158,7 +159,7 @@ REFUSED_WITH_VARIABLES: list[tuple[dict, str, str]] = [
 ]
 
 
-def shown(expression: str, variables: dict) -> str:
+def shown(expression: str, variables: dict[str, Any]) -> str:
     """The result of an expression as JSON, or `error`, or its refusal."""
     try:
         found = result_of(expression, variables)

@@ -8,8 +8,7 @@ from ..asking.policies import Part
 from ..asking.splitter import NotCut, Piece
 from ..asking.wide_places import Found, Places, leaf_at, wants_optional
 from ..asking.wide_splitter import cut
-from ..vapctl.wide_linting import binds_loosely
-from ..vapctl.wide_words import told
+from ..asking.wide_words import told
 
 # a text, and its pieces from the outermost on, those of one depth from left to right
 PIECES = [
@@ -24,7 +23,7 @@ PIECES = [
 NOT_CUT = ["'a", "a.?", "a[?]", "a.?b(", "f{}", "$"]
 
 
-def texts(text: str, piece: Piece) -> list:
+def texts(text: str, piece: Piece) -> list[Any]:
     return [text[piece.begin : piece.end], *(one for part in piece.parts for one in texts(text, part))]
 
 
@@ -50,7 +49,7 @@ class Pieces(unittest.TestCase):
         self.assertIsNone(leaf_at(cut("a + 1u"), 3))
 
 
-def around(text: str, piece: Piece, path: tuple = ()) -> Optional[tuple]:
+def around(text: str, piece: Piece, path: tuple[Any, ...] = ()) -> Optional[tuple[Any, ...]]:
     """The pieces that the leaf `x` is in, and the leaf."""
     if piece.kind == "leaf" and piece.word == "x":
         return piece, path
@@ -72,7 +71,6 @@ class Optionals(unittest.TestCase):
                 assert piece is not None
                 self.assertEqual(wants_optional(piece, path), due)
 
-
     def test_wholes_that_are_optional_values(self) -> None:
         for text, due in [("a[?b]", True), ("a.?b", True), ("a.first()", True), ("a.optMap(x, x)", True), ("a.b", False)]:
             with self.subTest(text):
@@ -93,7 +91,7 @@ class Program:
         return ""
 
 
-def found(text: str) -> list:
+def found(text: str) -> list[Any]:
     """What is refused: the texts under the carets, with the causes and the names."""
     part = Part("validation", 0, text, [])
     return [(one.cause, one.name, text[one.begin : one.end]) for one in Places(Program(), part).found()]
@@ -120,7 +118,7 @@ class Words(unittest.TestCase):
         for text, cause, name, due in [
             ("a.split(',')", "W5", "split",
              ("`split` is not supported yet", "`e == 'a' || e.startsWith('a/')` for `e.split('/')[0] == 'a'`")),
-            ("sets.contains(a, b)", "W5", "contains", ("`sets.contains` is not supported yet", "`b.all(x, x in a)`")),
+            ("lists.range(3)", "W5", "range", ("`lists.range` is not supported yet", "the list itself, as `[0, 1, 2]`")),
             ("cel.bind(x, 1, x)", "W5", "bind", ("no API server up to 1.36 has `cel.bind`", "a variable of the policy")),
             ("authorizer.path('/')", "W5", "path", ("the decisions of the authorizer are not known here", "")),
             ("a.foo(1)", "W5", "foo", ("there is no function `foo` with these arguments", "")),
@@ -131,7 +129,8 @@ class Words(unittest.TestCase):
             ("l.all(object, true)", "W5", "object", ("`object` is not taken as the name of an item", "another name")),
             ("l.existsOne(x, true)", "W5", "existsOne", ("no API server up to 1.36 has `existsOne`", "`exists_one`")),
             ("e[?k]", "W5", "", ("an optional index is a text or an int of at least 0, written out", "`k in e ? e[k] : ..`")),
-            ("{?'a': o}", "W5", "", ("entries with a question mark are not supported yet", "`has(e.f) ? {'a': e.f} : {}`")),
+            ("{?k: o}", "W6", "",
+             ("of a map at most three entries have a question mark, with keys that are texts, written out", "`has(e.f) ? {..} : {..}`")),
             ("b'a'", "W1", "", ("bytes, such as b'a', are not supported", "`'a'`")),
             ("2U", "W2", "", ("an unsigned int, 2U, is taken beside == != < <= > >= alone", "`2`")),
             ("o.or(1)", "W4", "",
@@ -148,11 +147,6 @@ class Words(unittest.TestCase):
 
     def test_the_whole_result(self) -> None:
         self.assertEqual(told(Found("W4", 0, 1), "o"), ("its result is an optional value", "`.orValue(..)` for its value, or `.hasValue()`"))
-
-    def test_what_gets_brackets(self) -> None:
-        for text, due in [("a + b", True), ("c ? a : b", True), ("!a", True), ("a.b", False), ("f(a)", False), ("1", False)]:
-            with self.subTest(text):
-                self.assertEqual(binds_loosely(text), due)
 
 
 if __name__ == "__main__":

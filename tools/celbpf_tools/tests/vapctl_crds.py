@@ -12,7 +12,7 @@ TYPES = {"object": dict, "array": list, "string": str, "integer": int, "boolean"
 
 def faults(value: Any, schema: dict[str, Any], path: str = "") -> list[str]:
     """What is wrong with a value by a schema of a definition."""
-    kind = TYPES[schema["type"]]
+    kind: Any = TYPES[schema["type"]]
     if not isinstance(value, kind) or (kind is int and isinstance(value, bool)):
         return [f"{path} is no {schema['type']}"]
     if "enum" in schema and value not in schema["enum"]:

@@ -8,6 +8,8 @@ from pathlib import Path
 
 sys.path.insert(0, str(Path(__file__).resolve().parents[2]))
 
+from typing import Any
+
 from celbpf_tools.entry import DEEPEST  # noqa: E402
 from celbpf_tools.evaluator import responses, reviews  # noqa: E402
 from celbpf_tools.evaluator.refused import Refused  # noqa: E402
@@ -17,7 +19,7 @@ from celbpf_tools.wide import calling, meaning, policies  # noqa: E402
 OPTIONS = ("--policy", "--namespace", "--params")
 
 
-def answer(gates: list, line: bytes, beside: dict) -> str:
+def answer(gates: list[Any], line: bytes, beside: dict[str, Any]) -> str:
     """The answer to a review: the messages of all policies that deny."""
     review = reviews.read(line, beside.get("--namespace"), beside.get("--params"))
     denied = []
@@ -33,7 +35,7 @@ def answer(gates: list, line: bytes, beside: dict) -> str:
     return json.dumps(whole, ensure_ascii=False, sort_keys=True, separators=(",", ":"))
 
 
-def main(words: list) -> int:
+def main(words: list[Any]) -> int:
     sys.setrecursionlimit(DEEPEST)
     if words[:1] == ["--wrong"]:
         setattr(meaning, "NONE", ERROR)

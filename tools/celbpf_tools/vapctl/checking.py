@@ -16,10 +16,12 @@ from .gate import Gate
 from .inputs import Inputs, Place, Thing, Trouble
 from .reports.texts import on_line
 from .requests import Asked, NoReview, Reviews, UnknownKind
-from .results import ERROR, UNDECIDED, Finding, Report, Result
+from .results import ERROR, UNDECIDED, Finding, Report, Result, plural
 from .statuses import REFUSED, WORDS
 
 MADE_HERE = Place("(made here)")
+# how the message of an expression with an error ends
+ERROR_WORDS = " resulted in error"
 
 
 @dataclass
@@ -165,7 +167,17 @@ def report_of(given: argparse.Namespace, progress: Callable[[], None] = lambda: 
         warn(given, deciding)
         for result, answer in zip(made.asked, deciding.decide(made.lines)):
             result.outcome, result.message, result.findings = answer
-    return Report(made.results, found.troubles, deciding.policies, given.fail_on_warn)
+    report = Report(made.results, found.troubles, deciding.policies, given.fail_on_warn)
+    tell_errors(report)
+    return report
+
+
+def tell_errors(report: Report) -> None:
+    """Tells what an expression with an error may have read."""
+    count = sum(one.message.endswith(ERROR_WORDS) for result in report.results for one in result.findings)
+    if count:
+        tell(f"{plural(count, 'finding')} of expressions with an error: `vapctl why` shows what they read; an API server adds "
+             "defaults first, and this command does not")
 
 
 def warn(given: argparse.Namespace, deciding: Deciding) -> None:
@@ -232,8 +244,10 @@ def refuse_user(given: argparse.Namespace) -> None:
 
 def refuse_words(given: argparse.Namespace) -> None:
     """Refuses options that do not go together."""
-    if bool(given.cluster) == bool(given.policies):
-        raise Stop("one of --cluster and --policy is needed", WORDS)
+    if given.cluster and given.policies:
+        raise Stop("--cluster and --policy do not go together", WORDS)
+    if not given.cluster and not given.policies:
+        raise Stop("--cluster or --policy is needed, which names the policies", WORDS)
     if given.params and given.cluster:
         raise Stop("--params goes with --policy: the state of --cluster has its params", WORDS)
     files = [file for _, file in given.output if file]

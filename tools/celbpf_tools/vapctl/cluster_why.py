@@ -10,7 +10,7 @@ from typing import Any, Optional
 
 from ..asking import policies
 from ..asking.program import NotAnswered, Program
-from ..asking.wide_places import Gatekeeper
+from ..asking.translating import Translating
 from ..commands import why
 from . import matching
 from .cluster import policy_of, spec_of
@@ -20,7 +20,6 @@ from .one_decision import policy_text
 from .probes import EVERYTHING, MATCHED, Probe, Probes
 from .refusals import words_of_refusal
 from .results import ERROR, Finding
-from .wide_only import missing
 
 ACTIONS = {"Deny": "denies", "Warn": "warns", "Audit": "audits"}
 OUTCOMES = {"admitted": "allows", "skipped": "is skipped, since a match condition is not true"}
@@ -160,24 +159,18 @@ class ClusterWhy:
         for key, value in (("namespace", self.namespace_object()), ("params", params and params.value)):
             if value is not None:
                 words += [f"--{key}", self.written(key, value)]
-        program = Program(self.program, str(self.folder), words)
+        program = Translating(self.program, self.deciding.gate.program, str(self.folder), words)
         file = self.folder / "one.json"
         file.write_text(policy_text(bound.policy), encoding="utf-8", errors="surrogatepass")
         try:
             outcome, shown = told(program, str(file))
         except NotAnswered as refused:
-            yield f"{title}: {self.not_shown(refused.line, bound.policy, str(file))}"
+            yield f"{title}: is not decided: {words_of_refusal(refused.line)}"
             return
         rejected = f"{REJECTED} {bound.actions}"
         yield f"{title}: {OUTCOMES.get(outcome, rejected if outcome == 'rejected' else bound.actions)}"
         if outcome != "admitted" or self.only:
             yield from (f"    {line}" for line in shown)
-
-    def not_shown(self, line: str, policy: Thing, file: str) -> str:
-        """Why an evaluation is not shown."""
-        if not Gatekeeper(self.deciding.gate.program, str(self.folder)).refusal(file):
-            return f"is decided, and not shown: {missing(json.loads(policy_text(policy)), '`why`', str(self.program))}"
-        return f"is not decided: {words_of_refusal(line)}"
 
     def written(self, name: str, value: Any) -> str:
         """The file of a document."""

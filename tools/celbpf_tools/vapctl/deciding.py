@@ -8,9 +8,9 @@ all findings, since a binding is not configured or a policy does not decide, eac
 import json
 import re
 from pathlib import Path
-from typing import Iterator
+from typing import Any, Iterator
 
-from .cluster import NoState, State, policy_of
+from .cluster import EVERYTHING, NoState, State, key_of, policy_of, spec_of
 from .gate import Answer, Gate
 from .inputs import Thing
 from .refusals import why_blocked
@@ -29,8 +29,13 @@ CAUSES = {
     "C1": "an object of the state has a number or a text that JSON does not have",
     "C2": "no name, another type of namespace or labels, or a namespace where the kind has none",
     "C4": "the state has no Namespace",
-    "C5": "an API server does not store this binding: its policyName, paramRef, matchResources or validationActions",
-    "C6": "an API server does not store this policy: its matchConstraints or paramKind",
+    "C5": "an API server does not store this binding",
+    "C6": "an API server does not store this policy",
+}
+# by such a code the fields of the specification that may be the cause, each with a value that is stored, or none
+REPAIRS: dict[str, dict[str, Any]] = {
+    "C5": {"policyName": "p", "paramRef": None, "matchResources": None, "validationActions": WARNS},
+    "C6": {"matchConstraints": {"resourceRules": [EVERYTHING]}, "paramKind": None},
 }
 
 
@@ -66,8 +71,18 @@ class Deciding:
             return f"{thing.place}: {thing.title}: {why} ({code})"
         for thing in {"C5": self.state.bindings, "C6": self.state.policies}.get(code, ()):
             if thing.name == name:
-                return f"{thing.place}: {thing.title}: {why} ({code})"
+                return f"{thing.place}: {thing.title}: {why}: {self.cause(thing, code)} ({code})"
         return f"{why} ({code})" if code in CAUSES else line
+
+    def cause(self, thing: Thing, code: str) -> str:
+        """The field without which a binding or a policy is stored, or all that may be, if it is not one alone."""
+        found = [key for key in REPAIRS[code] if self.is_stored(repaired(thing, key, REPAIRS[code][key]))]
+        return f"its {found[0]}" if len(found) == 1 else f"several of {', '.join(REPAIRS[code])}"
+
+    def is_stored(self, thing: Thing) -> bool:
+        """Whether the gatekeeper takes a state in which a binding or a policy is changed so."""
+        kept = [one for one in self.state.things if key_of(one) != key_of(thing)]
+        return not self.gate.started(State([*kept, thing]).written(self.folder / "repaired.json")).returncode
 
     def decide(self, lines: list[str]) -> Iterator[tuple[str, str, list[Finding]]]:
         """The outcome, the message and the findings of each review."""
@@ -149,7 +164,12 @@ class Deciding:
         return DENY if "Deny" in given else WARN if "Warn" in given else AUDIT if "Audit" in given else DENY
 
 
+def repaired(thing: Thing, key: str, value: Any) -> Thing:
+    """An object with another value in its specification, or without one."""
+    spec = {**spec_of(thing), key: value}
+    return Thing({**thing.value, "spec": {name: one for name, one in spec.items() if one is not None}}, thing.place)
+
+
 def has_more(answer: Answer) -> bool:
     """Whether there may be more findings than an answer has."""
     return bool(answer.policy) if answer.refused else not answer.is_plain
-

@@ -4,6 +4,7 @@ An input is JSON or YAML, of one or more documents. Objects of a `List` are take
 """
 
 import os
+import re
 import sys
 from dataclasses import dataclass
 from json import JSONDecodeError
@@ -19,6 +20,9 @@ STDIN = "-"
 # how standard input is called in messages and reports
 STDIN_NAME = "stdin"
 REVIEW = "AdmissionReview"
+# how an action of a template begins, which a map in a map seldom does
+ACTION = re.compile(r"\{\{[- .]")
+TEMPLATE = "; if it is a template of a chart, give what `helm template` prints"
 # the files that are taken of a folder
 SUFFIXES = (".yaml", ".yml", ".json")
 
@@ -196,7 +200,8 @@ class Inputs:
         except yaml_texts.NotRead as why:
             if looks_like_json(text) and not name.endswith(yaml_texts.NAMES):
                 raise fault from why
-            raise Unread(f"{why.why} at column {why.column}" if why.column else why.why, why.line) from why
+            told = f"{why.why} at column {why.column}" if why.column else why.why
+            raise Unread(told + TEMPLATE * bool(ACTION.search(text)), why.line) from why
 
     def of_document(self, name: str, document: Document) -> Iterator[Thing]:
         """The objects of a document."""

@@ -27,7 +27,8 @@ class Reader:
         self.text = text
         self.has_floats = False
         self.counted, self.line = 0, 1
-        self.decode: Callable[[str, int], tuple[Any, int]] = json.JSONDecoder(parse_float=self.float_of, parse_constant=refused_constant).raw_decode
+        decoder = json.JSONDecoder(parse_float=self.float_of, parse_constant=refused_constant)
+        self.decode: Callable[[str, int], tuple[Any, int]] = decoder.raw_decode
 
     def float_of(self, text: str) -> float:
         self.has_floats = True

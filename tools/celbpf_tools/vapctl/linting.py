@@ -9,8 +9,8 @@ from typing import Any, Optional
 
 from ..asking import policies
 from ..asking.program import Program
+from ..asking.refused import Refused, refused
 from ..asking.texts import pointed
-from ..commands.place import Refused, refused
 from .cluster import VERSION
 from .inputs import Thing
 from .one_decision import policy_text
@@ -130,4 +130,3 @@ def position_of(thing: Thing, found: Refused, marks: Optional[Marks]) -> Positio
     if found.part is None:
         return marks.of_key(line, path_of_key(found.key))
     return marks.position(line, path_of(found.part), found.begin, found.part.text)
-

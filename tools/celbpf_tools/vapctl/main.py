@@ -1,11 +1,12 @@
 """The words of `vapctl`, and how it ends."""
 
 import argparse
+import difflib
 import io
 import os
 import sys
 import traceback
-from typing import NoReturn, Optional
+from typing import Iterable, NoReturn, Optional
 
 from ..entry import Stop
 from .commands import WHATS, module_of
@@ -19,7 +20,9 @@ STATUSES = """Status 0: all is allowed, or passed; 1: something is denied, or fa
 decided, or cannot be read."""
 # calls inside calls are few, but where an expression is taken apart
 DEEPEST = 2_000
-DEEP = ("compile", "debug", "lint", "test", "why")
+DEEP = ("compile", "debug", "lint", "test", "translate", "why")
+# how other programs name files
+FILES = ("-f", "--filename", "--file")
 # shows where an error in vapctl itself is
 DEBUG = "VAPCTL_DEBUG"
 
@@ -49,6 +52,27 @@ def parser(name: str = "vapctl", chosen: Optional[str] = None) -> argparse.Argum
     return made
 
 
+def similar(word: str, known: Iterable[str]) -> str:
+    """What may be meant by a word that is not known."""
+    near = difflib.get_close_matches(word, known, 1)
+    return f"; there is {near[0]}" if near else ""
+
+
+def parsed(called: str, words: list[str]) -> argparse.Namespace:
+    """What the words ask for; `help COMMAND` is `COMMAND --help`."""
+    words = [*words[1:2], "--help"] if words[:1] == ["help"] else words
+    made = parser(called, words[0] if words else "")
+    if words and not words[0].startswith("-") and words[0] not in WHATS:
+        made.error(f"no command is called {words[0]}{similar(words[0], WHATS)}")
+    given, others = made.parse_known_args(words)
+    if others:
+        command = next(one.choices[given.command] for one in made._actions if isinstance(one, argparse._SubParsersAction))
+        name = others[0].partition("=")[0]
+        meant = "; files are named without an option" if name in FILES else similar(name, command._option_string_actions)
+        command.error(f"{name} is not known{meant}" if name.startswith("-") else f"{name} is a word too many")
+    return given
+
+
 def main(words: Optional[list[str]] = None) -> int:
     """Runs the command; an error in vapctl itself is reported on one line."""
     for stream in (sys.stdout, sys.stderr):
@@ -57,7 +81,7 @@ def main(words: Optional[list[str]] = None) -> int:
             stream.reconfigure(errors="backslashreplace")
     words = sys.argv[1:] if words is None else words
     called = os.path.basename(sys.argv[0])
-    given = parser(called if called in NAMES else NAMES[0], words[0] if words else "").parse_args(words)
+    given = parsed(called if called in NAMES else NAMES[0], words)
     if given.command not in DEEP:
         sys.setrecursionlimit(DEEPEST)
     try:

@@ -13,7 +13,6 @@ from .inputs import REVIEW, Inputs, Thing, Trouble
 from .requests import OPERATIONS, Asked, NoReview, Reviews
 from .statuses import REFUSED
 
-
 # the most names that a message lists
 MOST_NAMES = 10
 
@@ -111,4 +110,11 @@ def add_words(parser: argparse.ArgumentParser, is_optional: bool = False) -> Non
     group.add_argument("--operation", choices=OPERATIONS, help="of the manifest's request")
     group.add_argument("--definitions", action="append", default=[], metavar="F",
                        help="CustomResourceDefinitions of the manifest's kind; may be given several times")
+    add_programs(parser)
+
+
+def add_programs(parser: argparse.ArgumentParser) -> None:
+    """The options by which a policy is read."""
+    parser.add_argument("--profile", action="store_true", help="read the policy as `celbpf` does (docs/CEL.md)")
     parser.add_argument("--program", metavar="PROGRAM", help="the program celbpf to ask, if not the one that is installed")
+    parser.add_argument("--gatekeeper", metavar="PROGRAM", help="the gatekeeper to ask, likewise")

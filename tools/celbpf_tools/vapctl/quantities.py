@@ -64,7 +64,17 @@ def steps_of(path: str) -> list[str]:
     return [step for part in path.split(".") for step in (part.removesuffix("[]"), "[]" * part.endswith("[]")) if step]
 
 
-STEPS = {kind: [steps_of(path) for path in paths] for kind, paths in PATHS.items()}
+def tree_of(paths: tuple[str, ...]) -> dict[str, Any]:
+    """The steps of paths as a tree, so that what paths share is walked once; a leaf is empty."""
+    tree: dict[str, Any] = {}
+    for path in paths:
+        below = tree
+        for step in steps_of(path):
+            below = below.setdefault(step, {})
+    return tree
+
+
+TREES = {kind: tree_of(paths) for kind, paths in PATHS.items()}
 
 
 def text_of(value: Union[int, float]) -> str:
@@ -85,7 +95,8 @@ def decimal_text(number: Decimal, has_exponent: bool) -> str:
     """The canonical text with a decimal suffix or an exponent."""
     if number == 0:
         return "0"
-    exponent = max(place for place in SUFFIXES if number % (Decimal(10) ** place) == 0)
+    zeros = number.normalize().as_tuple().exponent
+    exponent = min(int(zeros) // 3 * 3, max(SUFFIXES))
     digits = f"{number / (Decimal(10) ** exponent):.0f}"
     if has_exponent:
         return f"{digits}e{exponent}" if exponent else digits
@@ -96,8 +107,10 @@ def binary_text(number: Decimal) -> str:
     """The canonical text with a binary suffix; one below 1,024, or with a fraction, has a decimal suffix."""
     if abs(number) < 1024 or number % 1 != 0:
         return decimal_text(number, False)
-    power = max(place for place in range(len(BINARY)) if number % (1 << (10 * place)) == 0)
-    return f"{int(number) >> (10 * power)}{BINARY[power]}"
+    whole = int(number)
+    zeros = (whole & -whole).bit_length() - 1
+    power = min(zeros // 10, len(BINARY) - 1)
+    return f"{whole >> (10 * power)}{BINARY[power]}"
 
 
 def quantity_of(value: Union[int, float]) -> str:
@@ -122,19 +135,21 @@ def canonical(text: str) -> str:
         return decimal_text(bounded(digits.scaleb(DECIMAL[suffix])), False)
 
 
-def places(value: Any, steps: list[str]) -> Iterator[tuple[dict[str, Any], str]]:
-    """The map and the key of each value at a path."""
-    if not isinstance(value, dict) or not steps:
+def places(value: Any, tree: dict[str, Any]) -> Iterator[tuple[dict[str, Any], str]]:
+    """The map and the key of each value at the leaves of a tree of steps."""
+    if not isinstance(value, dict):
         return
-    first, *rest = steps
-    for key in list(value) if first == "*" else [first] if first in value else []:
-        if not rest:
-            yield value, key
-        elif rest[0] != "[]":
-            yield from places(value[key], rest)
-        elif isinstance(value[key], list):
-            for item in value[key]:
-                yield from places(item, rest[1:])
+    for step, below in tree.items():
+        for key in list(value) if step == "*" else [step] if step in value else []:
+            if not below:
+                yield value, key
+                continue
+            items = below.get("[]")
+            if items is None:
+                yield from places(value[key], below)
+            elif isinstance(value[key], list):
+                for item in value[key]:
+                    yield from places(item, items)
 
 
 def is_number(value: Any) -> bool:
@@ -145,10 +160,9 @@ def is_number(value: Any) -> bool:
 def write_quantities(thing: dict[str, Any]) -> None:
     """Replaces the quantities of an object by what an API server stores."""
     group = thing["apiVersion"].rpartition("/")[0]
-    for steps in STEPS.get((group, thing["kind"]), ()):
-        for holder, key in places(thing, steps):
-            value = holder[key]
-            if isinstance(value, str):
-                holder[key] = canonical(value)
-            elif is_number(value):
-                holder[key] = quantity_of(value)
+    for holder, key in places(thing, TREES.get((group, thing["kind"]), {})):
+        value = holder[key]
+        if isinstance(value, str):
+            holder[key] = canonical(value)
+        elif is_number(value):
+            holder[key] = quantity_of(value)

@@ -1,6 +1,6 @@
 """What the refusal of a policy means, in words."""
 
-from ..commands.place import MEANINGS
+from ..asking.refused import MEANINGS
 
 BLOCKED = {"C8": "the kind of its params is not among the inputs: give a definition of it, or an object"}
 NO_NAMESPACE = "a match condition reads namespaceObject, which is null there in a cluster: write dyn(null)"
@@ -26,6 +26,9 @@ OTHERS = {
     "N3": "the namespace or the params are refused: they are no object, or have a number that is no 64-bit int",
     "N4": "the program takes more steps than are allowed",
     "N5": "the program takes more memory than is allowed",
+    "L3": "the image is refused: it has no slots, or more than 65,536",
+    "L4": "the image is refused: it has more than 1,048,576 bytes of constants",
+    "L5": "the image is refused: its file is longer or shorter than its head tells",
     "memory": "memory ran out",
 }
 
@@ -34,7 +37,7 @@ def words_of_refusal(line: str) -> str:
     """What `celbpf` says on standard error, in words."""
     if line.startswith("N1 "):
         return f"the policy is refused: {words_of(line.removeprefix('N1 '))}; `vapctl lint` shows all refusals"
-    if line.startswith("K"):
+    if line.startswith(("K", "G")):
         return f"the policy is refused: {words_of(line)}; `vapctl lint` shows all refusals"
     return f"{OTHERS[line]} ({line})" if line in OTHERS else line
 

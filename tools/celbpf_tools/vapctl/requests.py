@@ -14,6 +14,7 @@ OPERATIONS = ("CREATE", "UPDATE", "DELETE")
 # the most numbers of an object that a message names
 MOST_NUMBERS = 3
 
+
 @dataclass
 class Asked:
     """Who asks for what: the operation (by default by whether there is an old object), the user, and their groups."""

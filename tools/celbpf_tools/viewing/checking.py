@@ -18,14 +18,14 @@ TRUE = [{"expression": "true"}]
 DECIDED, LEAST, OUTCOME = 5, 11, 8
 
 
-def size_of(program: Program, policy: dict, **changed: Any) -> int:
+def size_of(program: Program, policy: dict[str, Any], **changed: Any) -> int:
     """The slots of a policy with some of its parts alone."""
     spec = {key: value for key, value in policy["spec"].items() if key == "failurePolicy"}
     listing = program.run("list", program.compiled(whole({**spec, **changed}))).stdout
     return sum(map(slots_of, listing.splitlines()))
 
 
-def compiled_ends(policy: dict, program: Program) -> Iterator[tuple]:
+def compiled_ends(policy: dict[str, Any], program: Program) -> Iterator[tuple[Any, ...]]:
     """The kind and place of each variable, condition and validation, and the slot after its code.
 
     They are those of policies that end with this part.
@@ -45,7 +45,7 @@ def compiled_ends(policy: dict, program: Program) -> Iterator[tuple]:
         yield "validation", place, size - OUTCOME
 
 
-def map_faults(policy: dict, program: Program, slots: SlotMap) -> Iterator[str]:
+def map_faults(policy: dict[str, Any], program: Program, slots: SlotMap) -> Iterator[str]:
     """What is wrong with a map: slots of no part or of two, and ends that compiled beginnings do not have."""
     owners = [[span for span in slots.spans if span.depth == 0 and span.holds(slot)] for slot in range(slots.size)]
     yield from (f"slot {slot} is in {len(one)} parts" for slot, one in enumerate(owners) if len(one) != 1)
@@ -69,7 +69,7 @@ class Evaluator:
         for name, tree in compiled.variables.items():
             self.meaning.variables[name] = self.meaning.of(tree)
 
-    def faults(self, one: Evaluation, items: dict, values: dict) -> Iterator[str]:
+    def faults(self, one: Evaluation, items: dict[str, Any], values: dict[str, Any]) -> Iterator[str]:
         """The sub-expressions of an evaluation with other values than the evaluator gives."""
         yield from self.differing(one.span.text, self.meaning.of(one.node.tree, items), one, values)
         for part in one.parts:
@@ -82,7 +82,7 @@ class Evaluator:
                 for part in turn.parts:
                     yield from self.faults(part, {**items, one.node.tree.name: item}, values)
 
-    def differing(self, text: str, wanted: Any, one: Any, values: dict) -> Iterator[str]:
+    def differing(self, text: str, wanted: Any, one: Any, values: dict[str, Any]) -> Iterator[str]:
         shown = values[one.reference]
         found = ERROR if shown == "error" else json.loads(shown)
         if not equal(wanted, found) and not (wanted is ERROR and found is ERROR):

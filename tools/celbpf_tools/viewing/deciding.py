@@ -1,7 +1,7 @@
 """Which evaluated sub-expressions decide the value of an expression, and where an error begins."""
 
 import json
-from typing import Iterator, Optional
+from typing import Any, Iterator, Optional
 
 from ..evaluator.trees import Call, Has, Macro, Operation, Selection, Ternary, Variable
 from ..evaluator.values import kind
@@ -12,7 +12,7 @@ ERROR_REFERENCE, FALSE_REFERENCE, TRUE_REFERENCE = 0, 2, 3
 ENDING = {"all": FALSE_REFERENCE, "exists": TRUE_REFERENCE}
 
 
-def inner(one: Evaluation) -> list:
+def inner(one: Evaluation) -> list[Any]:
     """What was evaluated for an evaluation, also for the items of a macro."""
     return [*one.parts, *(part for turn in one.turns for part in turn.parts)]
 
@@ -26,7 +26,7 @@ def deciding(one: Evaluation) -> Iterator[Evaluation]:
         yield one
 
 
-def passed_on(one: Evaluation) -> list:
+def passed_on(one: Evaluation) -> list[Any]:
     """The parts whose values decide that of an evaluation."""
     tree, parts = one.node.tree, [one.part(node) for node in one.node.parts]
     if isinstance(tree, Operation) and tree.sign in ("&&", "||"):
@@ -42,7 +42,7 @@ def passed_on(one: Evaluation) -> list:
     return []
 
 
-def last_turn(one: Evaluation) -> list:
+def last_turn(one: Evaluation) -> list[Any]:
     """The predicate of the last item that a macro looked at."""
     part = one.turns[-1].part(one.node.parts[1]) if one.turns else None
     return [part] if part else []
@@ -57,7 +57,7 @@ def origins(one: Evaluation) -> Iterator[Evaluation]:
         yield one
 
 
-def why_error(one: Evaluation, values: dict) -> str:
+def why_error(one: Evaluation, values: dict[Any, Any]) -> str:
     """What an evaluation lacks that is an error while its parts are none."""
     tree = one.node.tree
     if isinstance(tree, Variable):
@@ -65,20 +65,20 @@ def why_error(one: Evaluation, values: dict) -> str:
     operand = one.part(one.node.parts[0]) if one.node.parts else None
     if isinstance(tree, (Selection, Has)) and operand is None:
         return f"there is no field {tree.field}"
-    shown = kind_of(operand, values)
+    shown, text = kind_of(operand, values), operand.span.text if operand else ""
     if isinstance(tree, Selection) and shown == "map":
         return f"there is no field {tree.field}"
     if isinstance(tree, (Selection, Has)):
-        return f"{operand.span.text} is {article(shown)}, which has no fields"
+        return f"{text} is {article(shown)}, which has no fields"
     if isinstance(tree, Macro) and shown not in ("list", "map"):
-        return f"{operand.span.text} is {article(shown)}, which has no items"
+        return f"{text} is {article(shown)}, which has no items"
     if isinstance(tree, Operation) and tree.sign == "[]":
         lacks = "has no such item" if shown in ("list", "map") else f"is {article(shown)}"
-        return f"{operand.span.text} {lacks}"
+        return f"{text} {lacks}"
     return "its operands do not fit, or the result is too large"
 
 
-def kind_of(one: Optional[Evaluation], values: dict) -> str:
+def kind_of(one: Optional[Evaluation], values: dict[Any, Any]) -> str:
     """The word for the kind of a value."""
     text = values.get(one.reference, "error") if one else "error"
     return "error" if text == "error" else kind(json.loads(text))

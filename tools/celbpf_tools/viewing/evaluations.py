@@ -1,7 +1,7 @@
 """The sub-expressions that a run evaluated, as trees."""
 
 from dataclasses import dataclass, field
-from typing import Optional
+from typing import Any, Optional
 
 from ..evaluator.trees import Macro
 from ..slots.mapping import Span
@@ -19,11 +19,11 @@ class Evaluation:
     span: Span
     step: int
     reference: int
-    parts: list = field(default_factory=list)
-    turns: list = field(default_factory=list)
+    parts: list[Any] = field(default_factory=list)
+    turns: list[Any] = field(default_factory=list)
 
     @property
-    def node(self) -> Node:
+    def node(self) -> Any:
         return self.span.node
 
     def part(self, node: Node) -> Optional["Evaluation"]:
@@ -38,7 +38,7 @@ class Turn:
     span: Span
     step: int
     reference: int
-    parts: list = field(default_factory=list)
+    parts: list[Any] = field(default_factory=list)
 
     def part(self, node: Node) -> Optional[Evaluation]:
         return next((one for one in self.parts if one.node is node), None)
@@ -47,10 +47,10 @@ class Turn:
 class Builder:
     """The evaluations of one frame that belong to none around them yet."""
 
-    def __init__(self):
-        self.open: list = []
+    def __init__(self) -> None:
+        self.open: list[Any] = []
 
-    def inside(self, span: Span) -> list:
+    def inside(self, span: Span) -> list[Any]:
         """Takes the last ones whose code is in that of a span."""
         at = len(self.open)
         while at and span.first <= self.open[at - 1].span.first and self.open[at - 1].span.last <= span.last:
@@ -73,9 +73,9 @@ class Builder:
         self.open.append(made)
 
 
-def evaluated(walk: Walk) -> dict:
+def evaluated(walk: Walk) -> dict[Any, Any]:
     """The evaluations of whole parts, by the part's kind and place."""
-    frames: dict = {}
+    frames: dict[Any, Any] = {}
     found = {}
     for one in walk.arrivals:
         builder = frames.setdefault(one.depth, Builder())

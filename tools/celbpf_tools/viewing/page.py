@@ -4,17 +4,19 @@ import base64
 import hashlib
 from dataclasses import dataclass, field
 from pathlib import Path
-from typing import Optional
+from typing import Any, Optional
 
 from ..asking.policies import Part, parts
 from ..asking.program import Program
 from ..slots.mapping import parts_of
+from ..slots.nodes import is_same
 from . import run as run_data
+from .asked import AskedTrees
 from .evaluations import Evaluation, evaluated
 from .reads import reads_of
 from .recording import Recording, recorded, take_values
 from .review import Review
-from .trees import Trees, badge, value_of
+from .trees import SILENT, Trees, badge, value_of
 from .walk import Walk, references, walked
 from .writing import Markup, element, escaped, joined
 
@@ -29,7 +31,6 @@ ROOTS = range(4, 9)
 # the most characters of a value in a heading
 MOST_HEAD = 80
 LEGEND = element("p", element("span", "\u25cf", class_="sign"), " marks what was read", class_="legend")
-SILENT = element("span", "not evaluated", class_="value silent")
 
 
 @dataclass
@@ -37,38 +38,53 @@ class Decision:
     """What a page shows: the policy's document, the outcome, the names of the files, and the message of the response.
 
     `denials` has for the place of a validation its message and where that comes from, and `hints` for the kind and the
-    place of a part what to change in it, or None.
+    place of a part what to change in it, or None. `values` has for these its value, and `translations` its translation.
     """
 
-    policy: dict
+    policy: dict[Any, Any]
     outcome: str
-    files: list = field(default_factory=list)
+    files: list[Any] = field(default_factory=list)
     message: str = ""
-    denials: dict = field(default_factory=dict)
-    hints: dict = field(default_factory=dict)
+    denials: dict[Any, Any] = field(default_factory=dict)
+    hints: dict[Any, Any] = field(default_factory=dict)
+    values: dict[Any, Any] = field(default_factory=dict)
+    translations: dict[Any, Any] = field(default_factory=dict)
 
 
 @dataclass
 class Shown:
-    """A run with the evaluations of its parts."""
+    """A run with the evaluations of its parts, and the program that answers for pieces of them."""
 
+    program: Program
     run: Recording
     walk: Walk
-    found: dict
+    found: dict[Any, Any]
 
 
-def shown_run(decision: Decision, program: Program) -> tuple:
+def shown_run(decision: Decision, program: Program) -> tuple[Any, ...]:
     """The map of the policy's program, and its run over the documents."""
     image = program.kept_image(decision.policy)
     slots = parts_of(decision.policy, program)
+    decision.translations = {(part.kind, part.place): part for part in parts(program.document(decision.policy))}
     run = recorded(program, image, slots.lines)
     walk = walked(slots, run)
     take_values(run, program, image, sorted({*ROOTS, *references(run, walk)}))
-    return slots, Shown(run, walk, evaluated(walk))
+    return slots, Shown(program, run, walk, evaluated(walk))
 
 
 def source(part: Part) -> Markup:
     return element("pre", element("code", part.text.strip("\n")), class_="source")
+
+
+def trees_of(decision: Decision, part: Part, shown: Shown, whole: Optional[Evaluation], decides: bool) -> Markup:
+    """The tree of a part by the run; if it is translated, that of the author's text, and the translation to open."""
+    translation = decision.translations[part.kind, part.place]
+    by_run = Trees(translation, shown.run.values, whole, decides).all()
+    if not whole or is_same(part.text, translation.text):
+        return by_run
+    inside = [element("summary", "the translation, which the run below is of"), source(translation), by_run]
+    folded = element("details", *inside, class_="translation")
+    return joined([AskedTrees(shown.program, part, decides, whole).all(), folded])
 
 
 def told(decision: Decision, part: Part, whole: Optional[Evaluation]) -> bool:
@@ -93,18 +109,19 @@ def section(decision: Decision, part: Part, shown: Shown) -> Markup:
     """A part with its value, its text and the tree of its values."""
     whole = shown.found.get((part.kind, part.place))
     decides = told(decision, part, whole)
-    value = badge(value_of(whole.reference, shown.run.values), MOST_HEAD) if whole else SILENT
+    found = decision.values.get((part.kind, part.place)) or whole and value_of(whole.reference, shown.run.values)
+    value = badge(found or "", MOST_HEAD) if whole else SILENT
     mark = element("span", "\u25c0 decides", class_="mark decides") if decides else None
     heading = element("h3", part.title, " ", value, " ", mark)
     hint = decision.hints.get((part.kind, part.place))
     said = element("p", hint, class_="hint") if hint else None
-    trees = Trees(part, shown.run.values, whole, decides)
     classes = "part decides" if decides else "part"
-    content = [heading, denial(decision, part), said, source(part), trees.all()]
+    trees = trees_of(decision, part, shown, whole, decides)
+    content = [heading, denial(decision, part), said, source(part), trees]
     return element("section", *content, class_=classes, id=f"{part.kind}-{part.place}")
 
 
-def order(decision: Decision, part: Part, shown: Shown) -> tuple:
+def order(decision: Decision, part: Part, shown: Shown) -> tuple[Any, ...]:
     """Parts that decide come first, then by their kinds."""
     kinds = ("condition", "validation", "message", "variable")
     return not told(decision, part, shown.found.get((part.kind, part.place))), kinds.index(part.kind), part.place

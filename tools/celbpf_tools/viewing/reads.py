@@ -14,24 +14,24 @@ from ..slots.expressions import path_of
 from .deciding import ERROR_REFERENCE, TRUE_REFERENCE
 from .evaluations import Evaluation, Turn
 
-Origin = Optional[Union[tuple, list]]
+Origin = Optional[Union[tuple[Any, ...], list[Any]]]
 
 
 class Reads:
     """The paths of all reads; `missing` are those at which there is nothing."""
 
-    def __init__(self, values: dict):
+    def __init__(self, values: dict[Any, Any]):
         self.values = values
-        self.variables: dict = {}
-        self.paths: set = set()
-        self.missing: set = set()
+        self.variables: dict[Any, Any] = {}
+        self.paths: set[Any] = set()
+        self.missing: set[Any] = set()
 
     def value(self, one: Any) -> Any:
         """The value of an evaluation or an item; `None` also for the error."""
         text = self.values.get(one.reference, "error")
         return None if text == "error" else json.loads(text)
 
-    def take(self, one: Evaluation, items: dict) -> Origin:
+    def take(self, one: Evaluation, items: dict[Any, Any]) -> Origin:
         """Where the value of an evaluation comes from; adds what it read. `items` has the same of iteration names."""
         tree = one.node.tree
         parts = {id(part.node): self.take(part, items) for part in one.parts}
@@ -42,12 +42,12 @@ class Reads:
             return self.variables.get(tree.name)
         if isinstance(tree, (Selection, Has)):
             # a field that is kept for all of its uses is a field of a root
-            return self.field(one, given[0] if one.parts else self.read(path_of(one.node)[:1], True))
+            return self.field(one, given[0] if one.parts else self.read((path_of(one.node) or ())[:1], True))
         if isinstance(tree, Macro):
             return self.turns(one, given[0], items)
         return self.passed(one, given)
 
-    def read(self, path: tuple, is_there: bool) -> tuple:
+    def read(self, path: tuple[Any, ...], is_there: bool) -> tuple[Any, ...]:
         self.paths.add(path)
         if not is_there:
             self.missing.add(path)
@@ -63,7 +63,7 @@ class Reads:
             return None
         return self.read(path, one.reference != ERROR_REFERENCE)
 
-    def passed(self, one: Evaluation, given: list) -> Origin:
+    def passed(self, one: Evaluation, given: list[Any]) -> Origin:
         """Where the value of an operator, a conditional or a list comes from."""
         tree = one.node.tree
         if isinstance(tree, Ternary):
@@ -77,7 +77,7 @@ class Reads:
             return [origin for part, base in zip(one.parts[-2:], given) for origin in self.items(part, base)]
         return self.index(one, given) if sign == "[]" else None
 
-    def index(self, one: Evaluation, given: list) -> Origin:
+    def index(self, one: Evaluation, given: list[Any]) -> Origin:
         """Where an item of a list, or the value at a key, comes from."""
         key = self.value(one.part(one.node.parts[1]))
         if isinstance(given[0], list):
@@ -86,7 +86,7 @@ class Reads:
             return None
         return self.read((*given[0], key), one.reference != ERROR_REFERENCE)
 
-    def items(self, one: Any, origin: Origin) -> list:
+    def items(self, one: Any, origin: Origin) -> list[Any]:
         """Where each item of a value comes from; the keys of a map are no fields."""
         value = self.value(one)
         if not isinstance(value, list):
@@ -95,7 +95,7 @@ class Reads:
             return origin
         return [origin and (*origin, place) for place in range(len(value))]
 
-    def turns(self, one: Evaluation, base: Origin, items: dict) -> Origin:
+    def turns(self, one: Evaluation, base: Origin, items: dict[Any, Any]) -> Origin:
         """Reads for the items of a macro; where those of a new list come from."""
         tree, found = one.node.tree, []
         origins = self.items(one.part(one.node.parts[0]), base)
@@ -115,7 +115,7 @@ class Reads:
         return len(turn.parts) == len(one.node.parts) - 1
 
 
-def reads_of(parts: dict, names: dict, values: dict) -> Reads:
+def reads_of(parts: dict[Any, Any], names: dict[Any, Any], values: dict[Any, Any]) -> Reads:
     """The reads of a run, of these parts; `names` has the name of each variable by its place."""
     made = Reads(values)
     for (kind, place), one in parts.items():

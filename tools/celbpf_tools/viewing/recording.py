@@ -3,7 +3,7 @@
 import re
 import subprocess
 from dataclasses import dataclass, field
-from typing import Iterator
+from typing import Any, Iterator
 
 from ..asking.program import LINE_STEPS, LINES, NotAnswered, Program
 
@@ -19,8 +19,8 @@ class State:
 
     pc: int
     status: str
-    registers: tuple
-    calls: tuple
+    registers: tuple[Any, ...]
+    calls: tuple[Any, ...]
 
 
 @dataclass
@@ -30,33 +30,33 @@ class Recording:
     `stored` has for a step the address and the word that a frame got by it, and `values` the JSON of references.
     """
 
-    states: list
+    states: list[Any]
     steps: int
-    verdict: list
-    stored: dict = field(default_factory=dict)
-    values: dict = field(default_factory=dict)
+    verdict: list[Any]
+    stored: dict[Any, Any] = field(default_factory=dict)
+    values: dict[Any, Any] = field(default_factory=dict)
 
     @property
     def is_whole(self) -> bool:
         return len(self.states) == self.steps + 1
 
 
-def said(program: Program, image: str, asked: str) -> list:
+def said(program: Program, image: str, asked: str) -> list[Any]:
     """The lines that a session writes; only a line feed ends one."""
-    words = [program.path, "debug", image, *program.documents]
+    words: list[Any] = [program.path, "debug", image, *program.documents]
     ran = subprocess.run(words, input=asked.encode(), capture_output=True)
     if ran.returncode:
         raise NotAnswered(subprocess.CompletedProcess([], ran.returncode, "", ran.stderr.decode()))
     return ran.stdout.decode().split("\n")[:-1]
 
 
-def move(line: str) -> tuple:
+def move(line: str) -> tuple[Any, ...]:
     """The step, the slot and the status in the line of a move."""
     _, step, _, pc, status = line.split(" ", 4)
     return int(step), int(pc), status
 
 
-def states_of(lines: list) -> Iterator[State]:
+def states_of(lines: list[Any]) -> Iterator[State]:
     """The states in the answers to `r` and `f`, each after the line of a move."""
     at = 0
     while at < len(lines):
@@ -68,7 +68,7 @@ def states_of(lines: list) -> Iterator[State]:
         at += depth
 
 
-def stores(states: list, lines: dict) -> dict:
+def stores(states: list[Any], lines: dict[Any, Any]) -> dict[Any, Any]:
     """For each step that stores into a frame the address."""
     found = {}
     for step, before in enumerate(states[:-1]):
@@ -78,7 +78,7 @@ def stores(states: list, lines: dict) -> dict:
     return found
 
 
-def recorded(program: Program, image: str, lines: dict) -> Recording:
+def recorded(program: Program, image: str, lines: dict[Any, Any]) -> Recording:
     """The run of an image; `lines` has its instructions by slot."""
     end = said(program, image, f"c {LINE_STEPS}\n" * LINES + "w\n")
     moves = [line for line in end if line.startswith("step ")]
@@ -94,7 +94,7 @@ def recorded(program: Program, image: str, lines: dict) -> Recording:
     return made
 
 
-def take_values(made: Recording, program: Program, image: str, references: list) -> None:
+def take_values(made: Recording, program: Program, image: str, references: list[Any]) -> None:
     """Asks for the values of references, at the last state that is recorded."""
     asked = f"g {len(made.states) - 1}\n" + "".join(f"v {one}\n" for one in references)
     for one, answer in zip(references, said(program, image, asked)[1:]):

@@ -27,13 +27,13 @@ class Review:
         # what has something in it that was read
         self.around = {path[:length] for path in reads.paths for length in range(1, len(path))}
 
-    def named(self, path: tuple, name: str) -> Markup:
+    def named(self, path: tuple[Any, ...], name: str) -> Markup:
         """The name of a field, marked if it was read."""
         is_read = path in self.reads.paths
         sign = element("span", READ if is_read else "", class_="sign", title="read" if is_read else None)
         return joined([sign, element("mark" if is_read else "span", name, class_="key")])
 
-    def is_line(self, path: tuple, value: Any) -> bool:
+    def is_line(self, path: tuple[Any, ...], value: Any) -> bool:
         """Whether a value is on the line of its name: what has no parts, and what is short and was read as a whole."""
         if not isinstance(value, (dict, list)):
             return True
@@ -41,7 +41,7 @@ class Review:
             return False
         return not value or path in self.reads.paths and len(leaf(value)) <= MOST_LINE
 
-    def field(self, path: tuple, name: str, value: Any) -> Markup:
+    def field(self, path: tuple[Any, ...], name: str, value: Any) -> Markup:
         """A field with its value; other lists and maps can be opened, and are open if something in them was read."""
         if self.is_line(path, value):
             return element("li", self.named(path, name), ": ", element("code", leaf(value)))
@@ -51,12 +51,12 @@ class Review:
         summary = element("summary", self.named(path, name), " ", element("span", count, class_="count"))
         return element("li", element("details", summary, element("ul", *inside), open=path in self.around))
 
-    def fields(self, path: tuple, value: Any) -> list:
+    def fields(self, path: tuple[Any, ...], value: Any) -> list[Any]:
         pairs = value.items() if isinstance(value, dict) else enumerate(value)
         found = [self.field((*path, key), str(key), inner) for key, inner in pairs]
         return found + self.missing(path)
 
-    def missing(self, path: tuple) -> list:
+    def missing(self, path: tuple[Any, ...]) -> list[Any]:
         """The fields that were asked for and are not there."""
         absent = sorted(str(one[-1]) for one in self.reads.missing if one[:-1] == path)
         return [self.absent(name) for name in absent]
@@ -65,7 +65,7 @@ class Review:
         sign = element("span", READ, class_="sign", title="read")
         return element("li", sign, element("mark", name, class_="key"), " ", element("em", "is not there"))
 
-    def all(self, values: dict) -> Markup:
+    def all(self, values: dict[Any, Any]) -> Markup:
         """All roots that are not null or were read."""
         found = []
         for place, root in enumerate(ROOTS):

@@ -17,7 +17,7 @@ def word(number: int) -> str:
     return f"0x{number:016x}"
 
 
-def changes(run: Recording) -> list:
+def changes(run: Recording) -> list[Any]:
     """For each step the registers that have another word than before."""
     found, before = [], (None,) * len(run.states[0].registers)
     for state in run.states:
@@ -27,25 +27,25 @@ def changes(run: Recording) -> list:
     return found
 
 
-def calls(run: Recording) -> list:
+def calls(run: Recording) -> list[Any]:
     """The steps at which the open calls change, with the lines of these."""
-    found: list = []
+    found: list[Any] = []
     for step, state in enumerate(run.states):
         if not found or found[-1][1] != list(state.calls):
             found.append([step, list(state.calls)])
     return found
 
 
-def parts_of(slots: SlotMap) -> list:
+def parts_of(slots: SlotMap) -> list[Any]:
     """The parts of the policy that have code."""
-    found: list = []
+    found: list[Any] = []
     for span in slots.spans:
         if span.part and span.part not in found:
             found.append(span.part)
     return found
 
 
-def spans_of(slots: SlotMap, parts: list) -> list:
+def spans_of(slots: SlotMap, parts: list[Any]) -> list[Any]:
     """Each span: first and last slot, the number of its part or -1, its role, and its place in the part's text."""
     places = {id(part): place for place, part in enumerate(parts)}
     return [
@@ -53,7 +53,7 @@ def spans_of(slots: SlotMap, parts: list) -> list:
     ]
 
 
-def data(slots: SlotMap, run: Recording, walk: Walk) -> dict:
+def data(slots: SlotMap, run: Recording, walk: Walk) -> dict[str, Any]:
     """All that the script of the page shows."""
     parts = parts_of(slots)
     numbers = {id(span): place for place, span in enumerate(slots.spans)}

@@ -1,6 +1,6 @@
 """The parts of a policy as HTML: for each sub-expression its value, the ones that decide and errors marked."""
 
-from typing import Optional
+from typing import Any, Optional
 
 from ..asking.policies import Part
 from ..asking.reasons import is_literal, is_path
@@ -15,13 +15,14 @@ from .writing import Markup, element, joined
 MOST_VALUE = 200
 MOST_ITEMS = 100
 ERROR = "error"
+SILENT = element("span", "not evaluated", class_="value silent")
 
 
 def shortened(text: str, most: int = MOST_VALUE) -> str:
     return text if len(text) <= most else f"{text[:most]}.. ({len(text)} characters)"
 
 
-def value_of(reference: int, values: dict) -> str:
+def value_of(reference: int, values: dict[Any, Any]) -> str:
     return values.get(reference, ERROR)
 
 
@@ -40,14 +41,14 @@ def go(step: int) -> Markup:
 class Trees:
     """The trees of one part; `values` has the JSON of references, and `is_told` says whether the part decides."""
 
-    def __init__(self, part: Part, values: dict, whole: Optional[Evaluation], is_told: bool):
+    def __init__(self, part: Part, values: dict[Any, Any], whole: Optional[Evaluation], is_told: bool):
         self.text = part.text
         self.places = {variable["name"]: place for place, variable in enumerate(part.scope)}
         self.values = values
         self.whole = whole
         self.deciding = set(map(id, deciding(whole))) if whole and is_told else set()
         self.origins = set(map(id, origins(whole))) if whole else set()
-        self.opened: set = set()
+        self.opened: set[Any] = set()
         if whole:
             self.open(whole)
 
@@ -103,7 +104,7 @@ class Trees:
         summary = element("summary", self.line(one))
         return element("li", element("details", summary, element("ul", *below), open=is_open))
 
-    def below(self, one: Evaluation) -> list:
+    def below(self, one: Evaluation) -> list[Any]:
         """The parts of an evaluation that say more than it does."""
         if is_macro(one.node):
             return self.of_macro(one)
@@ -126,10 +127,9 @@ class Trees:
 
     def silent(self, node: Node) -> Markup:
         """A part that the run did not evaluate."""
-        said = element("span", "not evaluated", class_="value silent")
-        return element("li", element("div", self.source(node), " ", said, class_="leaf"))
+        return element("li", element("div", self.source(node), " ", SILENT, class_="leaf"))
 
-    def of_macro(self, one: Evaluation) -> list:
+    def of_macro(self, one: Evaluation) -> list[Any]:
         """The range of a macro and the items that it looked at."""
         shown = [self.part(one, one.node.parts[0])]
         told = one.turns[:MOST_ITEMS] + [turn for turn in one.turns[MOST_ITEMS:] if self.is_told(turn)]

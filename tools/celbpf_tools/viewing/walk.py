@@ -2,6 +2,7 @@
 
 import re
 from dataclasses import dataclass, field
+from typing import Any
 
 from ..slots.mapping import SlotMap, Span
 from .recording import Recording, State
@@ -33,9 +34,9 @@ class Walk:
     `named` has a set of registers for each step, and `words` the steps at which a word of a frame got a reference.
     """
 
-    arrivals: list = field(default_factory=list)
-    named: list = field(default_factory=list)
-    words: set = field(default_factory=set)
+    arrivals: list[Any] = field(default_factory=list)
+    named: list[Any] = field(default_factory=list)
+    words: set[Any] = field(default_factory=set)
 
 
 class Walker:
@@ -44,9 +45,9 @@ class Walker:
     def __init__(self, slots: SlotMap, run: Recording):
         self.slots = slots
         self.run = run
-        self.registers: set = set()
-        self.frames: set = set()
-        self.kept: list = []
+        self.registers: set[Any] = set()
+        self.frames: set[Any] = set()
+        self.kept: list[Any] = []
         self.walk = Walk(named=[frozenset()])
 
     def all(self) -> Walk:
@@ -105,7 +106,7 @@ def walked(slots: SlotMap, run: Recording) -> Walk:
     return Walker(slots, run).all()
 
 
-def references(run: Recording, walk: Walk) -> list:
+def references(run: Recording, walk: Walk) -> list[Any]:
     """All references that registers, words of frames and sub-expressions name in a run."""
     found = {one.reference for one in walk.arrivals}
     for state, named in zip(run.states, walk.named):

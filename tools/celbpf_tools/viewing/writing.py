@@ -1,7 +1,7 @@
 """Elements of HTML; every text in them is escaped."""
 
 import html
-from typing import Iterable
+from typing import Any, Iterable
 
 
 class Markup(str):
@@ -30,6 +30,6 @@ def element(tag: str, *content: object, **attributes: object) -> Markup:
     return Markup(f"<{tag}{''.join(given)}>{joined(content)}</{tag}>")
 
 
-def joined(content: Iterable) -> Markup:
+def joined(content: Iterable[Any]) -> Markup:
     """Several pieces of content, one after another."""
     return Markup("".join(escaped(one) for one in content if one is not None))

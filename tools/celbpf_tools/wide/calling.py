@@ -7,12 +7,10 @@ from ..evaluator.values import ERROR, kind
 from . import lists, patterns, quantities, texts, times, versions
 from .calls import VERB, format_tested, qualified
 from .clauses import Clauses
-from .results import (
-    CIDR, IP, NONE, Duration, Quantity, Semver, Some, Timestamp, alike, is_optional, is_typed, kind_of,
-)
+from .results import CIDR, IP, NONE, Duration, Quantity, Semver, Some, Timestamp, alike, is_optional, is_typed, kind_of
 from .trees import Call, Method
 
-ZEROS: list = [None, False, 0, "", [], {}]
+ZEROS: list[Any] = [None, False, 0, "", [], {}]
 MAKERS: dict[str, Any] = {
     "quantity": (quantities.quantity, Quantity), "duration": (times.duration, Duration),
     "timestamp": (times.timestamp, Timestamp), "semver": (versions.semver, Semver), "ip": (versions.ip, IP),
@@ -44,12 +42,12 @@ class Calling:
     def seen(self, clause: str, result: Any) -> Any:
         raise NotImplementedError
 
-    def call(self, tree: Call, items: dict) -> Any:
+    def call(self, tree: Call, items: dict[str, Any]) -> Any:
         arguments = [self.of(one, items) for one in tree.arguments]
         result = self.function(tree, arguments)
         return self.seen(f"{tree.function}: {result is not ERROR}", result)
 
-    def function(self, tree: Call, arguments: list) -> Any:
+    def function(self, tree: Call, arguments: list[Any]) -> Any:
         name, first = tree.function, arguments[0]
         if name in MAKERS:
             return self.made(name, arguments)
@@ -69,7 +67,7 @@ class Calling:
             return or_error(read(first)) if kind(first) == "text" else first if kind(first) == name else ERROR
         return operations.CALLS[name](first)
 
-    def made(self, name: str, arguments: list) -> Any:
+    def made(self, name: str, arguments: list[Any]) -> Any:
         """The typed value that a function makes of a text, or of one of its own kind."""
         make, made = MAKERS[name]
         first = arguments[0]
@@ -79,7 +77,7 @@ class Calling:
             return ERROR
         return or_error(make(*arguments))
 
-    def method(self, tree: Method, items: dict) -> Any:
+    def method(self, tree: Method, items: dict[str, Any]) -> Any:
         tested, function = format_tested(tree), qualified(tree)
         if tested:
             text = self.of(tested[1], items)
@@ -106,7 +104,7 @@ class Calling:
         word = type(target).__name__ if is_typed(target) else kind_of(target)
         return self.seen(f"{tree.method} of {word}: {result is not ERROR}", result)
 
-    def qualified(self, name: str, arguments: list) -> Any:
+    def qualified(self, name: str, arguments: list[Any]) -> Any:
         if name == "optional.none":
             return NONE
         if any(one is ERROR for one in arguments):
@@ -119,7 +117,7 @@ class Calling:
         is_lists = all(kind_of(one) == "list" for one in arguments)
         return lists.SETS[name](*arguments) if is_lists else ERROR
 
-    def either(self, tree: Method, target: Any, items: dict) -> Any:
+    def either(self, tree: Method, target: Any, items: dict[str, Any]) -> Any:
         """`o.orValue(d)` or `o.or(p)`; d or p is evaluated if o is none, and only then."""
         if target is NONE:
             return self.seen(f"{tree.method} of none", self.of(tree.arguments[0], items))
@@ -136,7 +134,7 @@ class Calling:
             return self.seen("value of none", ERROR)
         return self.seen("value of some", target.value)
 
-    def held(self, tree: Method, items: dict) -> Any:
+    def held(self, tree: Method, items: dict[str, Any]) -> Any:
         """Whether a quantity is held as an int, or as which, which depends on its text."""
         text = self.of(tree.target.arguments[0], items)
         if kind_of(text) != "text" or quantities.quantity(text) is None:
@@ -145,7 +143,7 @@ class Calling:
         result = found is not None if tree.method == "isInteger" else or_error(found)
         return self.seen(f"{tree.method}: {found is not None}", result)
 
-    def formatted(self, tree: Method, items: dict) -> Any:
+    def formatted(self, tree: Method, items: dict[str, Any]) -> Any:
         values = iter([self.of(one, items) for _, one in tree.arguments[0].items])
         wrong = False
 
@@ -164,7 +162,7 @@ class Calling:
         text = VERB.sub(shown, tree.target.value)
         return ERROR if wrong else text
 
-    def of_plain(self, method: str, target: Any, arguments: list) -> Any:
+    def of_plain(self, method: str, target: Any, arguments: list[Any]) -> Any:
         """A method of a text or a list, or of what has no method."""
         if method in ("first", "last"):
             if kind_of(target) != "list":
@@ -185,11 +183,11 @@ class Calling:
         fits = fits and all(kind_of(one) == kind for one, kind in zip(arguments, wanted))
         return or_error(function(target, *arguments)) if fits else ERROR
 
-    def fits_list(self, method: str, arguments: list) -> bool:
+    def fits_list(self, method: str, arguments: list[Any]) -> bool:
         """Whether a list takes this number of arguments: `indexOf` of a text takes one more."""
         return not (method in ("indexOf", "lastIndexOf") and len(arguments) != 1)
 
-    def found(self, method: str, target: str, arguments: list) -> Any:
+    def found(self, method: str, target: str, arguments: list[Any]) -> Any:
         if [kind_of(one) for one in arguments] not in (["text"], ["text", "int"]):
             return ERROR
         try:
@@ -197,7 +195,7 @@ class Calling:
         except patterns.BadPattern as why:
             raise NotDecided("N8") from why
 
-    def of_typed(self, tree: Method, target: Any, arguments: list) -> Any:
+    def of_typed(self, tree: Method, target: Any, arguments: list[Any]) -> Any:
         method = tree.method
         if isinstance(target, Quantity):
             return self.of_quantity(tree, target, arguments)
@@ -216,7 +214,7 @@ class Calling:
         one = versions.ip(arguments[0]) if kind_of(arguments[0]) == "text" else arguments[0]
         return versions.contains(target, one) if isinstance(one, IP) else ERROR
 
-    def of_quantity(self, tree: Method, target: Quantity, arguments: list) -> Any:
+    def of_quantity(self, tree: Method, target: Quantity, arguments: list[Any]) -> Any:
         if tree.method in ("add", "sub"):
             one = arguments[0].number if isinstance(arguments[0], Quantity) else arguments[0]
             return Quantity(target.number + one if tree.method == "add" else target.number - one)

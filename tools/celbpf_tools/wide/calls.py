@@ -5,9 +5,7 @@ from typing import Any, Optional
 
 from .patterns import BadPattern, compiled
 from .refused import refuse
-from .signatures import (
-    FUNCTIONS, KNOWN_METHODS, MAKERS, METHODS, NAMESPACES, OF_CALLS, OF_OPTIONALS, OF_TYPED, PLAIN, TYPED, Opt,
-)
+from .signatures import FUNCTIONS, KNOWN_METHODS, MAKERS, METHODS, NAMESPACES, OF_CALLS, OF_OPTIONALS, OF_TYPED, PLAIN, TYPED, Opt
 from .texts import NAMED_FORMATS
 from .trees import Call, ListLiteral, Literal, Method, Name, Node
 
@@ -15,7 +13,7 @@ VERB = re.compile(r"%(.?)", re.DOTALL)
 FINDING = ("find", "findAll")
 
 
-def format_tested(tree: Method) -> Optional[tuple]:
+def format_tested(tree: Method) -> Optional[tuple[Any, ...]]:
     """The name and text of `format.NAME().validate(text).hasValue()`, or None."""
     inner = tree.target
     if tree.method != "hasValue" or tree.arguments or not isinstance(inner, Method):
@@ -44,13 +42,13 @@ def is_maker(tree: Any, kind: str) -> bool:
 class Calls:
     """The kinds of calls, over those of their parts."""
 
-    def of(self, tree: Any, names: dict) -> Any:
+    def of(self, tree: Any, names: dict[str, Any]) -> Any:
         raise NotImplementedError
 
-    def plain(self, tree: Any, names: dict) -> str:
+    def plain(self, tree: Any, names: dict[str, Any]) -> str:
         raise NotImplementedError
 
-    def call(self, tree: Call, names: dict) -> Any:
+    def call(self, tree: Call, names: dict[str, Any]) -> Any:
         if "." in tree.function or tree.function not in FUNCTIONS:
             # the arguments of an unknown function have no rules
             refuse("W5", tree.place, tree.function)
@@ -61,24 +59,24 @@ class Calls:
             return given[0]
         return self.result(tree, tree.function, given, tree.arguments)
 
-    def sign(self, tree: Call, names: dict) -> str:
+    def sign(self, tree: Call, names: dict[str, Any]) -> str:
         given = [self.of(one, names) for one in tree.arguments]
         self.result(tree, "sign", given, tree.arguments)
         self.needs_call(tree.arguments[0], "Quantity", names)
         return "Int"
 
-    def needs_call(self, tree: Any, kind: str, names: dict) -> None:
+    def needs_call(self, tree: Any, kind: str, names: dict[str, Any]) -> None:
         """Refuses a typed value that is not made by the call itself, of a text."""
         if not is_maker(tree, kind) or self.of(tree.arguments[0], names) not in PLAIN:
             refuse("W9", tree.place)
 
-    def result(self, tree: Node, name: str, given: list, arguments: tuple) -> Any:
+    def result(self, tree: Node, name: str, given: list[Any], arguments: tuple[Any, ...]) -> Any:
         """The kind of a function's result on arguments of these kinds."""
         wanted, least, result = FUNCTIONS[name]
         self.take(tree, name, (wanted, least), given, arguments)
         return Opt(given[0]) if result is None else result
 
-    def take(self, tree: Any, name: str, signature: tuple, given: list, arguments: tuple) -> None:
+    def take(self, tree: Any, name: str, signature: tuple[Any, ...], given: list[Any], arguments: tuple[Any, ...]) -> None:
         """Refuses arguments that a signature does not take."""
         wanted, least = signature
         if not least <= len(given) <= len(wanted):
@@ -91,7 +89,7 @@ class Calls:
             if one not in kinds and not (one == "Dyn" and set(kinds) & set(PLAIN)):
                 refuse("Y2", tree.place)
 
-    def method(self, tree: Method, names: dict) -> Any:
+    def method(self, tree: Method, names: dict[str, Any]) -> Any:
         tested, function = format_tested(tree), qualified(tree)
         if tested:
             is_text = self.plain(tested[1], names) in ("String", "Dyn")
@@ -115,7 +113,7 @@ class Calls:
     def unknown(self, tree: Method) -> Any:
         refuse("W5", tree.named, tree.method)
 
-    def of_optional(self, tree: Method, target: Opt, given: list) -> Any:
+    def of_optional(self, tree: Method, target: Opt, given: list[Any]) -> Any:
         if len(given) != OF_OPTIONALS.get(tree.method, -1):
             if tree.method in OF_OPTIONALS:
                 self.unknown(tree)
@@ -140,14 +138,14 @@ class Calls:
             return Opt("Dyn")
         return refuse("W4", tree.arguments[0].place)
 
-    def of_typed(self, tree: Method, target: str, given: list, names: dict) -> str:
+    def of_typed(self, tree: Method, target: str, given: list[Any], names: dict[str, Any]) -> str:
         wanted, least, result = OF_TYPED[target][tree.method]
         self.take(tree, tree.method, (wanted, least), given, tree.arguments)
         if tree.method in OF_CALLS.get(target, ()):
             self.needs_call(tree.target, target, names)
         return result
 
-    def of_plain(self, tree: Method, target: Any, given: list) -> Any:
+    def of_plain(self, tree: Method, target: Any, given: list[Any]) -> Any:
         if target not in PLAIN or tree.method not in METHODS:
             refuse("Y2" if target in PLAIN else "W4", tree.target.place)
         for receivers, wanted, least, result in METHODS[tree.method]:
@@ -157,7 +155,7 @@ class Calls:
                 return result
         return refuse("Y2", tree.place)
 
-    def may_take(self, receivers: tuple, tree: Method, given: list) -> bool:
+    def may_take(self, receivers: tuple[Any, ...], tree: Method, given: list[Any]) -> bool:
         """Whether an unknown receiver may be one of these: of several signatures the first that fits."""
         rows = METHODS[tree.method]
         is_text = len(given) == 2 or given[:1] == ["String"]
@@ -172,7 +170,7 @@ class Calls:
         except BadPattern:
             refuse("W8", tree.arguments[0].place)
 
-    def formatted(self, tree: Method, names: dict) -> str:
+    def formatted(self, tree: Method, names: dict[str, Any]) -> str:
         """`'..'.format([a, ..])`"""
         text, values = tree.target, tree.arguments[0] if len(tree.arguments) == 1 else None
         if not isinstance(text, Literal) or not isinstance(text.value, str) or not isinstance(values, ListLiteral):

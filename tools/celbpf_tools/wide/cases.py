@@ -33,8 +33,8 @@ class Case:
     """The text of an expression, variables by name, and the roots of several reviews."""
 
     text: str
-    variables: dict
-    roots: list
+    variables: dict[str, Any]
+    roots: list[Any]
 
 
 @dataclass
@@ -42,15 +42,15 @@ class Due:
     """The refusal of a case, or a result for each review, with the clauses that the profile defines otherwise."""
 
     refusal: str = ""
-    results: list = field(default_factory=list)
-    apart: list = field(default_factory=list)
+    results: list[Any] = field(default_factory=list)
+    apart: list[Any] = field(default_factory=list)
 
 
 def cases(numbers: Any, share: int, reviews: int) -> Iterator[Case]:
     """Cases from a seed."""
     pool = Pool(numbers)
     while True:
-        kinds: dict = {}
+        kinds: dict[str, Any] = {}
         variables = {}
         for name in numbers.some(VARIABLES, 3):
             others = [*(f"optional {one}" for one in KINDS), *TYPED]
@@ -78,10 +78,10 @@ def made(maker: WideExpressions, kind: str, room: int) -> str:
     return maker.typed(kind, room) if kind in TYPED else maker.text(kind, room)
 
 
-class Variables(dict):
+class Variables(dict[str, Any]):
     """The results of variables, each evaluated when it is first used."""
 
-    def __init__(self, trees: dict):
+    def __init__(self, trees: dict[str, Any]):
         super().__init__()
         self.trees = trees
         self.meaning: Optional[Meaning] = None
@@ -92,7 +92,7 @@ class Variables(dict):
         return self[name]
 
 
-def result_of(tree: Any, variables: dict, roots: dict, clauses: Clauses) -> Any:
+def result_of(tree: Any, variables: dict[str, Any], roots: dict[str, Any], clauses: Clauses) -> Any:
     """The result of a tree over roots and the trees of variables; N8 if a review is not decided."""
     lazy = Variables(variables)
     lazy.meaning = Meaning(roots, lazy, clauses)

@@ -1,6 +1,7 @@
 """How often each clause of the definition is evaluated."""
 
 from collections import Counter
+from typing import Any
 
 from . import lists, texts
 from .signatures import FUNCTIONS, OF_TYPED
@@ -58,15 +59,15 @@ class Clauses:
     """Counts of clauses."""
 
     def __init__(self) -> None:
-        self.counts: Counter = Counter()
+        self.counts: Counter[Any] = Counter()
 
     def add(self, clause: str) -> None:
         self.counts[clause] += 1
 
-    def apart(self) -> list:
+    def apart(self) -> list[Any]:
         """The clauses that were evaluated and that the profile defines otherwise."""
         return [clause for clause in APART if self.counts[clause]]
 
-    def never(self, expected: list) -> list:
+    def never(self, expected: list[Any]) -> list[Any]:
         """The expected clauses that were never evaluated."""
         return [clause for clause in expected if not self.counts[clause]]

@@ -32,7 +32,7 @@ def literal(value: Any) -> str:
     return json.dumps(value, ensure_ascii=False)
 
 
-def validation(place: int, result: Any, word: str) -> dict:
+def validation(place: int, result: Any, word: str) -> dict[str, Any]:
     """A validation that a review of this place alone decides."""
     is_value = result is not ERROR and not isinstance(result, NotDecided)
     due = literal(result) if is_value else "null"
@@ -40,7 +40,7 @@ def validation(place: int, result: Any, word: str) -> dict:
     return {"expression": text, "message": word}
 
 
-def policy(case: Case, due: Due, word: str) -> dict:
+def policy(case: Case, due: Due, word: str) -> dict[str, Any]:
     named = {**case.variables, "it": case.text}
     validations = [validation(place, result, word) for place, result in enumerate(due.results)]
     spec = {
@@ -55,24 +55,24 @@ def policy(case: Case, due: Due, word: str) -> dict:
     }
 
 
-def review(roots: dict) -> dict:
+def review(roots: dict[str, Any]) -> dict[str, Any]:
     request = {**roots["request"], "object": roots["object"], "oldObject": roots["oldObject"]}
     return {"apiVersion": "admission.k8s.io/v1", "kind": "AdmissionReview", "request": request}
 
 
 def answer(place: int, result: Any) -> str:
     """The line that answers a review with this result."""
-    response: dict = {"allowed": result is not ERROR, "uid": f"u{place}"}
+    response: dict[str, Any] = {"allowed": result is not ERROR, "uid": f"u{place}"}
     if result is ERROR:
         response["status"] = {"code": 422, "message": "fail", "reason": "Invalid"}
     whole = {"apiVersion": "admission.k8s.io/v1", "kind": "AdmissionReview", "response": response}
     return json.dumps(whole, sort_keys=True, separators=(",", ":"))
 
 
-def run(program: Any, case: Case, due: Due, options: tuple = ()) -> subprocess.CompletedProcess:
+def run(program: Any, case: Case, due: Due, options: tuple[Any, ...] = ()) -> subprocess.CompletedProcess[bytes]:
     """How a gatekeeper ends with these options on the policies and reviews of a case."""
     with tempfile.TemporaryDirectory() as folder:
-        words: list = [Path(program).resolve(), *options]
+        words: list[Any] = [Path(program).resolve(), *options]
         documents = {f"--policy {word}": policy(case, due, word) for word in POLICIES}
         beside = {"--params params": "params", "--namespace namespace": "namespaceObject"}
         documents.update({name: case.roots[0][root] for name, root in beside.items() if case.roots[0][root]})
@@ -95,7 +95,7 @@ def names(line: str, refusal: str) -> bool:
 class Compared:
     """Counts of what a gatekeeper with these options answered."""
 
-    def __init__(self, options: tuple = ()) -> None:
+    def __init__(self, options: tuple[Any, ...] = ()) -> None:
         self.options = options
         self.expressions = self.values = self.errors = self.stopped = 0
         self.too_large = self.refused = self.not_yet = 0
@@ -124,7 +124,7 @@ class Compared:
             return self.answered(ended, due)
         return None
 
-    def answered(self, ended: subprocess.CompletedProcess, due: Due) -> Optional[str]:
+    def answered(self, ended: subprocess.CompletedProcess[bytes], due: Due) -> Optional[str]:
         """The first difference between the lines of a gatekeeper and those that are due, or None."""
         errors = ended.stderr.decode()
         lines = ended.stdout.decode().splitlines()

@@ -33,20 +33,20 @@ class WideDocuments(Documents):
         numbers = self.numbers
         return super().text() if numbers.one_in(2) else numbers.pick(WORDS)
 
-    def one_of(self, forms: list) -> Callable:
+    def one_of(self, forms: list[Any]) -> Callable[..., Any]:
         """Makes a text of a form, and now and then one near it."""
         return lambda: self.numbers.pick(NEAR if self.numbers.one_in(8) else forms)
 
-    def object(self, **makers: Callable) -> dict:
+    def object(self, **makers: Callable[..., Any]) -> dict[str, Any]:
         """An object some of whose keys are absent, null or of another kind."""
-        made: dict = {}
+        made: dict[str, Any] = {}
         for key, make in makers.items():
             chosen = self.numbers.below(40)
             if chosen >= 4:
                 made[key] = make() if chosen >= 8 else None if chosen >= 6 else self.anything()
         return made
 
-    def typed(self) -> dict:
+    def typed(self) -> dict[str, Any]:
         """Texts that functions read."""
         return self.object(
             cpu=self.one_of(QUANTITIES), lasting=self.one_of(DURATIONS), since=self.one_of(TIMESTAMPS),
@@ -54,20 +54,20 @@ class WideDocuments(Documents):
             written=self.one_of(WRITTEN),
         )
 
-    def spec(self) -> dict:
+    def spec(self) -> dict[str, Any]:
         made = super().spec()
         if not self.numbers.one_in(20):
             made["typed"] = self.typed()
         return made
 
-    def roots(self) -> dict:
+    def roots(self) -> dict[str, Any]:
         """The five roots of a request."""
         request = self.request()
         given = [request.pop("object", None), request.pop("oldObject", None)]
         given += [self.nothing_or(self.params), self.nothing_or(lambda: {"metadata": self.metadata()})]
         return dict(zip(ROOTS, [*given, request]))
 
-    def nothing_or(self, make: Callable) -> Any:
+    def nothing_or(self, make: Callable[..., Any]) -> Any:
         return None if self.numbers.one_in(8) else make()
 
 
@@ -77,9 +77,9 @@ class Pool:
     def __init__(self, numbers: Any):
         self.numbers = numbers
         self.documents = WideDocuments(numbers)
-        self.kept: list = []
+        self.kept: list[Any] = []
 
-    def several(self, count: int) -> list:
+    def several(self, count: int) -> list[Any]:
         """The roots of this number of requests with one params and namespace; their uids are their places."""
         self.kept = [*self.kept[-MOST_KEPT:], self.documents.roots()]
         given = [self.kept[-1], *(self.numbers.pick(self.kept) for _ in range(count - 1))]

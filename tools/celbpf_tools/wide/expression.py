@@ -15,8 +15,8 @@ WHOLES = {"condition": ("Bool", "Dyn"), "message": ("String", "Dyn"), "annotatio
 class Scope:
     """The variables so far: their kinds, and whether their values are known from the documents."""
 
-    kinds: dict = field(default_factory=dict)
-    known: dict = field(default_factory=dict)
+    kinds: dict[str, Any] = field(default_factory=dict)
+    known: dict[str, Any] = field(default_factory=dict)
 
 
 def taken(text: str, scope: Scope, part: str = "value") -> Any:

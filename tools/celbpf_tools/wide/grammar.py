@@ -9,9 +9,7 @@ from ..evaluator.grammar import LEVELS, MOST_OPEN, OPENING, WORDS, is_identifier
 from .macros import expand
 from .refused import refuse
 from .tokens import Token, tokens
-from .trees import (
-    Call, Field, Index, ListLiteral, Literal, MapLiteral, Method, Name, Operation, Ternary, Uint,
-)
+from .trees import Call, Field, Index, ListLiteral, Literal, MapLiteral, Method, Name, Operation, Ternary, Uint
 
 
 class Reader:
@@ -120,13 +118,13 @@ class Reader:
             return Method(begins, tree, name, self.arguments(), named)
         return Field(begins, tree, name, optional)
 
-    def name(self, allowed: Callable) -> str:
+    def name(self, allowed: Callable[..., Any]) -> str:
         """The name that comes next and is allowed here."""
         if self.kind() != "name" or not allowed(self.tokens[self.at].value):
             refuse("P4", self.place())
         return self.next()
 
-    def arguments(self) -> tuple:
+    def arguments(self) -> tuple[Any, ...]:
         """The expressions between the brackets of a call."""
         self.enter()
         found = []
@@ -167,17 +165,17 @@ class Reader:
         self.leave(OPENING[opening])
         return tree
 
-    def item(self) -> tuple:
+    def item(self) -> tuple[Any, ...]:
         return self.takes("?"), self.expression()
 
-    def entry(self) -> tuple:
+    def entry(self) -> tuple[Any, ...]:
         optional, key = self.takes("?"), self.expression()
         self.take(":")
         return optional, key, self.expression()
 
-    def series(self, part: Callable, closing: str) -> tuple:
+    def series(self, part: Callable[..., Any], closing: str) -> tuple[Any, ...]:
         """Parts with commas between them, and perhaps one at the end, even if there is no part."""
-        found: list[tuple] = []
+        found: list[tuple[Any, ...]] = []
         if not self.is_next(closing, ","):
             found.append(part())
         while self.takes(","):

@@ -4,9 +4,7 @@ from dataclasses import replace
 from typing import Any, Optional
 
 from .refused import refuse
-from .trees import (
-    Call, Field, Has, Index, ListLiteral, Macro, MapLiteral, Method, Name, Operation, Ternary,
-)
+from .trees import Call, Field, Has, Index, ListLiteral, Macro, MapLiteral, Method, Name, Operation, Ternary
 
 # the number of names and of arguments of each form of a macro
 FORMS = {
@@ -30,7 +28,7 @@ def has_of(call: Call) -> Has:
     return Has(call.place, expand(field.operand), field.name)
 
 
-def names_of(arguments: tuple) -> tuple:
+def names_of(arguments: tuple[Any, ...]) -> tuple[Any, ...]:
     """The iteration names that these arguments declare."""
     names: list[str] = []
     for argument in arguments:
@@ -53,7 +51,7 @@ def macro_of(method: Method, count: int) -> Macro:
     return Macro(method.place, method.method, target, names, predicate, transform, method.named)
 
 
-def expand_all(trees: tuple) -> tuple:
+def expand_all(trees: tuple[Any, ...]) -> tuple[Any, ...]:
     return tuple(expand(tree) for tree in trees)
 
 

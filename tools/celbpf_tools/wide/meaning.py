@@ -12,9 +12,7 @@ from .calling import Calling
 from .clauses import Clauses
 from .kinds import is_type_test, is_variables
 from .results import NONE, Duration, Some, alike, is_optional, is_typed, kind_of, kinds_of
-from .trees import (
-    Call, Field, Has, Index, ListLiteral, Literal, Macro, MapLiteral, Method, Name, Operation, Ternary, Uint,
-)
+from .trees import Call, Field, Has, Index, ListLiteral, Literal, Macro, MapLiteral, Method, Name, Operation, Ternary, Uint
 
 WORDS_OF_KINDS = {"int": "int", "string": "text", "bool": "bool", "null_type": "null", "list": "list", "map": "map"}
 ONE_NAME = {
@@ -53,12 +51,12 @@ def indexed(value: Any, key: Any) -> Any:
 class Meaning(Calling):
     """Evaluation over the five roots and the variables, dicts from names to results."""
 
-    def __init__(self, roots: dict, variables: dict, clauses: Optional[Clauses] = None):
+    def __init__(self, roots: dict[str, Any], variables: dict[str, Any], clauses: Optional[Clauses] = None):
         self.roots = roots
         self.variables = variables
         self.clauses = clauses or Clauses()
 
-    def of(self, tree: Any, items: Optional[dict] = None) -> Any:
+    def of(self, tree: Any, items: Optional[dict[str, Any]] = None) -> Any:
         """The result of a tree, where `items` are the iteration names in scope."""
         return OF_NODES[type(tree)](self, tree, items or {})
 
@@ -67,13 +65,13 @@ class Meaning(Calling):
         self.clauses.add(clause)
         return result
 
-    def literal(self, tree: Literal, _: dict) -> Any:
+    def literal(self, tree: Literal, _: dict[str, Any]) -> Any:
         return self.seen("literal", tree.value)
 
-    def uint(self, tree: Uint, _: dict) -> int:
+    def uint(self, tree: Uint, _: dict[str, Any]) -> int:
         return self.seen("uint", tree.number)
 
-    def name(self, tree: Name, items: dict) -> Any:
+    def name(self, tree: Name, items: dict[str, Any]) -> Any:
         if tree.name not in items:
             return self.seen("root after a dot" if tree.dotted else "root", self.roots[tree.name])
         if tree.dotted:
@@ -81,7 +79,7 @@ class Meaning(Calling):
         clause = "iteration name that hides a root" if tree.name in self.roots else "iteration name"
         return self.seen(clause, items[tree.name])
 
-    def field(self, tree: Field, items: dict) -> Any:
+    def field(self, tree: Field, items: dict[str, Any]) -> Any:
         if is_variables(tree.operand, items):
             return self.seen("variable", self.variables[tree.name])
         operand = self.of(tree.operand, items)
@@ -97,7 +95,7 @@ class Meaning(Calling):
         """Counts an optional step by what it gives."""
         return self.seen(f"{clause}: {'some' if isinstance(result, Some) else result}", result)
 
-    def index(self, tree: Index, items: dict) -> Any:
+    def index(self, tree: Index, items: dict[str, Any]) -> Any:
         operand = self.of(tree.operand, items)
         if operand is NONE:
             return self.seen("index of none", NONE)
@@ -108,7 +106,7 @@ class Meaning(Calling):
             return self.seen("index", operations.index(operand, key))
         return self.optional_result("optional index", indexed(operand, key))
 
-    def presence(self, tree: Has, items: dict) -> Any:
+    def presence(self, tree: Has, items: dict[str, Any]) -> Any:
         operand = self.of(tree.operand, items)
         if operand is NONE or operand is None:
             return self.seen("has of null" if operand is None else "has of none", False)
@@ -116,7 +114,7 @@ class Meaning(Calling):
         found = selected(operand.value if isinstance(operand, Some) else operand, tree.name)
         return self.seen(f"{clause}: {found is not ERROR}", ERROR if found is ERROR else found is not NONE)
 
-    def operation(self, tree: Operation, items: dict) -> Any:
+    def operation(self, tree: Operation, items: dict[str, Any]) -> Any:
         if is_type_test(tree, items):
             return self.type_test(tree, items)
         if tree.sign == "in" and tree.operands[1] == ListLiteral(0, ()):
@@ -129,10 +127,10 @@ class Meaning(Calling):
             return ERROR
         if any(map(is_typed, operands)):
             return self.typed_operation(tree.sign, operands)
-        signs: dict = operations.UNARY if len(operands) == 1 else operations.BINARY
+        signs: dict[str, Any] = operations.UNARY if len(operands) == 1 else operations.BINARY
         return self.seen(f"{tree.sign} of {len(operands)}", signs[tree.sign](*operands))
 
-    def type_test(self, tree: Operation, items: dict) -> Any:
+    def type_test(self, tree: Operation, items: dict[str, Any]) -> Any:
         call, named = tree.operands
         value = self.of(call.arguments[0], items)
         if value is ERROR:
@@ -146,7 +144,7 @@ class Meaning(Calling):
         self.clauses.add(f"equality of {words.pop()}" if len(words) == 1 else "equality")
         return ERROR if found is ERROR else found == (sign == "==")
 
-    def typed_operation(self, sign: str, operands: list) -> Any:
+    def typed_operation(self, sign: str, operands: list[Any]) -> Any:
         """A comparison of two typed values of one kind, or an operator of times."""
         if sign == "-" and len(operands) == 1:
             given = operands[0]
@@ -159,13 +157,13 @@ class Meaning(Calling):
             return ERROR
         return self.seen("order of typed", COMPARED[sign](left, right))
 
-    def ternary(self, tree: Ternary, items: dict) -> Any:
+    def ternary(self, tree: Ternary, items: dict[str, Any]) -> Any:
         condition = self.of(tree.condition, items)
         if kind_of(condition) != "bool":
             return self.seen("conditional without a bool", ERROR)
         return self.seen("conditional", self.of(tree.chosen if condition else tree.other, items))
 
-    def list_literal(self, tree: ListLiteral, items: dict) -> Any:
+    def list_literal(self, tree: ListLiteral, items: dict[str, Any]) -> Any:
         found = []
         for optional, item in tree.items:
             result = self.of(item, items)
@@ -179,8 +177,8 @@ class Meaning(Calling):
                 self.clauses.add("item of none")
         return self.seen("list", ERROR if ERROR in found else found)
 
-    def map_literal(self, tree: MapLiteral, items: dict) -> Any:
-        found: dict = {}
+    def map_literal(self, tree: MapLiteral, items: dict[str, Any]) -> Any:
+        found: dict[str, Any] = {}
         wrong = False
         for optional, key_tree, tree_of_value in tree.entries:
             key, value = self.of(key_tree, items), self.of(tree_of_value, items)
@@ -195,7 +193,7 @@ class Meaning(Calling):
                 found[key] = value
         return self.seen(f"map: {not wrong}", ERROR if wrong else found)
 
-    def macro(self, tree: Macro, items: dict) -> Any:
+    def macro(self, tree: Macro, items: dict[str, Any]) -> Any:
         if tree.word in ("optMap", "optFlatMap"):
             return self.over_optional(tree, items)
         values = self.of(tree.range, items)
@@ -212,14 +210,14 @@ class Meaning(Calling):
         result = ONE_NAME[tree.word](turns)
         return self.seen(f"{tree.word} over {word} by {len(tree.names)}", result)
 
-    def turn(self, tree: Macro, items: dict, item: Any) -> tuple:
+    def turn(self, tree: Macro, items: dict[str, Any], item: Any) -> tuple[Any, ...]:
         """The predicate for an item, and what is kept of it."""
         truth = True if tree.predicate is None else self.of(tree.predicate, items)
         if tree.transform is None or truth is not True:
             return truth, item
         return truth, self.of(tree.transform, items)
 
-    def over_optional(self, tree: Macro, items: dict) -> Any:
+    def over_optional(self, tree: Macro, items: dict[str, Any]) -> Any:
         given = self.of(tree.range, items)
         if not isinstance(given, Some):
             return self.seen(f"{tree.word} of {given}", given)
@@ -229,7 +227,7 @@ class Meaning(Calling):
         return self.seen("optMap of some", ERROR if result is ERROR else Some(result))
 
 
-OF_NODES: dict[type, Callable] = {
+OF_NODES: dict[type, Callable[..., Any]] = {
     Literal: Meaning.literal, Uint: Meaning.uint, Name: Meaning.name, Field: Meaning.field, Index: Meaning.index,
     Has: Meaning.presence, Operation: Meaning.operation, Ternary: Meaning.ternary,
     ListLiteral: Meaning.list_literal, MapLiteral: Meaning.map_literal, Macro: Meaning.macro,

@@ -2,7 +2,7 @@
 
 from typing import Any
 
-from ..seeded.expressions import FIELDS, KINDS, MEMBER, PATHS, RELATION, TERNARY, OR, Expressions
+from ..seeded.expressions import FIELDS, KINDS, MEMBER, OR, PATHS, RELATION, TERNARY, Expressions
 from ..seeded.texts import text_literal
 
 # a range whose last item, or a map whose entry, is mostly of a kind
@@ -97,24 +97,24 @@ class OptionalForms(Expressions):
 
     # what takes optionals
 
-    def or_value(self, kind: str, room: int) -> tuple:
+    def or_value(self, kind: str, room: int) -> tuple[Any, ...]:
         return f"{self.optional(kind, room)}.orValue({self.part(kind, room, TERNARY)})", MEMBER
 
-    def value(self, kind: str, room: int) -> tuple:
+    def value(self, kind: str, room: int) -> tuple[Any, ...]:
         return f"{self.optional(kind, room)}.value()", MEMBER
 
-    def has_value(self, _: str, room: int) -> tuple:
+    def has_value(self, _: str, room: int) -> tuple[Any, ...]:
         return f"{self.optional(self.numbers.pick(KINDS), room)}.hasValue()", MEMBER
 
-    def equal_optionals(self, _: str, room: int) -> tuple:
+    def equal_optionals(self, _: str, room: int) -> tuple[Any, ...]:
         kind, sign = self.numbers.pick(KINDS), self.numbers.pick(["==", "!="])
         return self.between(self.optional(kind, room), sign, self.optional(kind, room)), RELATION
 
-    def presence_in_optional(self, _: str, room: int) -> tuple:
+    def presence_in_optional(self, _: str, room: int) -> tuple[Any, ...]:
         target = self.optional("map", room)
         return f"has({target}.{self.numbers.pick(FIELDS)})", MEMBER
 
-    def optional_items(self, _: str, room: int) -> tuple:
+    def optional_items(self, _: str, room: int) -> tuple[Any, ...]:
         """A list literal with optional items."""
         kind, items = self.numbers.pick(KINDS), []
         for _place in range(1 + self.numbers.below(3)):
@@ -122,7 +122,7 @@ class OptionalForms(Expressions):
             items.append("?" + self.optional(kind, room) if is_optional else self.part(kind, room, TERNARY))
         return f"[{', '.join(items)}]", MEMBER
 
-    def optional_entries(self, _: str, room: int) -> tuple:
+    def optional_entries(self, _: str, room: int) -> tuple[Any, ...]:
         """A map literal with at most three optional entries."""
         numbers, entries = self.numbers, []
         for place in range(1 + numbers.below(3)):
@@ -134,7 +134,7 @@ class OptionalForms(Expressions):
         return f"{{{', '.join(entries)}}}", MEMBER
 
 
-OPTIONALS: list = [
+OPTIONALS: list[Any] = [
     OptionalForms.optional_index, OptionalForms.optional_index, OptionalForms.optional_field,
     OptionalForms.optional_field, OptionalForms.optional_of, OptionalForms.optional_none,
     OptionalForms.optional_map, OptionalForms.optional_flat_map, OptionalForms.optional_or,

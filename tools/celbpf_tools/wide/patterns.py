@@ -36,7 +36,7 @@ class BadPattern(Exception):
         self.byte = byte
 
 
-def folded(ranges: list) -> list:
+def folded(ranges: list[Any]) -> list[Any]:
     """Ranges with all cases of their ASCII letters."""
     found = list(ranges)
     for letter in "abcdefghijklmnopqrstuvwxyz":
@@ -47,7 +47,7 @@ def folded(ranges: list) -> list:
     return found
 
 
-def others(ranges: list) -> list:
+def others(ranges: list[Any]) -> list[Any]:
     """The code points outside these ranges."""
     found, least = [], 0
     for low, high in sorted(ranges):
@@ -64,7 +64,7 @@ class PatternReader:
         self.pattern = pattern
         self.at = 0
         self.folds = self.dots_all = False
-        self.names: set = set()
+        self.names: set[Any] = set()
 
     def refuse(self, at: int) -> NoReturn:
         raise BadPattern(len(self.pattern[:at].encode()))
@@ -72,7 +72,7 @@ class PatternReader:
     def is_next(self, text: str) -> bool:
         return self.pattern.startswith(text, self.at)
 
-    def whole(self) -> tuple:
+    def whole(self) -> tuple[Any, ...]:
         if len(self.pattern.encode()) > MOST_BYTES:
             raise BadPattern(MOST_BYTES)
         while self.is_next("(?i)") or self.is_next("(?s)"):
@@ -84,20 +84,20 @@ class PatternReader:
             self.refuse(self.at)
         return tree
 
-    def either(self) -> tuple:
+    def either(self) -> tuple[Any, ...]:
         found = [self.row()]
         while self.is_next("|"):
             self.at += 1
             found.append(self.row())
         return ("any", found)
 
-    def row(self) -> tuple:
+    def row(self) -> tuple[Any, ...]:
         found = []
         while self.at < len(self.pattern) and self.pattern[self.at] not in "|)":
             found.append(self.repeated())
         return ("all", found)
 
-    def repeated(self) -> tuple:
+    def repeated(self) -> tuple[Any, ...]:
         begins, part = self.at, self.atom()
         count = COUNT.match(self.pattern, self.at)
         if self.at == len(self.pattern) or not count and self.pattern[self.at] not in "*+?{":
@@ -120,7 +120,7 @@ class PatternReader:
             self.refuse(begins)
         return tree
 
-    def atom(self) -> tuple:
+    def atom(self) -> tuple[Any, ...]:
         begins, character = self.at, self.pattern[self.at]
         if character == "(":
             return self.group()
@@ -137,15 +137,15 @@ class PatternReader:
             return self.escape(begins)
         return ("set", self.fold([self.literal(character, begins)]))
 
-    def literal(self, character: str, at: int) -> tuple:
+    def literal(self, character: str, at: int) -> tuple[Any, ...]:
         if self.folds and ord(character) > 127:
             self.refuse(at)
         return (ord(character), ord(character))
 
-    def fold(self, ranges: list) -> list:
+    def fold(self, ranges: list[Any]) -> list[Any]:
         return folded(ranges) if self.folds else ranges
 
-    def group(self) -> tuple:
+    def group(self) -> tuple[Any, ...]:
         begins = self.at
         opening = GROUP.match(self.pattern, self.at)
         name = opening[1] if opening else None
@@ -159,7 +159,7 @@ class PatternReader:
         self.at += 1
         return tree
 
-    def escape(self, begins: int) -> tuple:
+    def escape(self, begins: int) -> tuple[Any, ...]:
         """An escape outside brackets."""
         letter = self.pattern[self.at : self.at + 1]
         self.at += 1
@@ -170,14 +170,14 @@ class PatternReader:
             return ("set", ranges if letter.islower() else others(ranges))
         return ("set", self.fold([self.escaped(letter, begins)]))
 
-    def escaped(self, letter: str, begins: int) -> tuple:
+    def escaped(self, letter: str, begins: int) -> tuple[Any, ...]:
         if letter in CONTROLS:
             return (CONTROLS[letter], CONTROLS[letter])
         if not letter or letter not in PUNCTUATION:
             self.refuse(begins)
         return (ord(letter), ord(letter))
 
-    def brackets(self) -> list:
+    def brackets(self) -> list[Any]:
         """The ranges of a class in brackets."""
         begins = self.at
         self.at += 1
@@ -194,7 +194,7 @@ class PatternReader:
         ranges = self.fold(found)
         return others(ranges) if negated else ranges
 
-    def member(self, first: int) -> list:
+    def member(self, first: int) -> list[Any]:
         """The ranges of the next member of a class."""
         begins, named = self.at, NAMED_CLASS.match(self.pattern, self.at)
         if named:
@@ -214,13 +214,13 @@ class PatternReader:
             self.refuse(begins)
         return self.alone([(low, high)], begins)
 
-    def alone(self, ranges: list, begins: int) -> list:
+    def alone(self, ranges: list[Any], begins: int) -> list[Any]:
         """Ranges that no `-` follows, but for one at the end."""
         if self.is_next("-") and not self.pattern.startswith("]", self.at + 1):
             self.refuse(begins)
         return ranges
 
-    def end_of_range(self, first: int) -> tuple:
+    def end_of_range(self, first: int) -> tuple[Any, ...]:
         """A literal inside brackets; a `-` only at an end."""
         begins, character = self.at, self.pattern[self.at : self.at + 1]
         at_end = begins == first or self.pattern.startswith("]", begins + 1)
@@ -278,7 +278,7 @@ def written(tree: Any) -> str:
     return "(?:" + ("|" if tree[0] == "any" else "").join(map(written, tree[1])) + ")"
 
 
-def compiled(pattern: str, finds: bool = False) -> re.Pattern:
+def compiled(pattern: str, finds: bool = False) -> re.Pattern[str]:
     """A pattern for `re`, or why it is not taken; one that finds texts may not repeat the empty one."""
     tree = PatternReader(pattern).whole()
     if finds and repeats_empty(tree):
@@ -286,7 +286,7 @@ def compiled(pattern: str, finds: bool = False) -> re.Pattern:
     return re.compile(written(tree), re.ASCII)
 
 
-def found_all(pattern: str, text: str, most: int = -1) -> list:
+def found_all(pattern: str, text: str, most: int = -1) -> list[Any]:
     """The matches without overlap; an empty one directly after a match is none."""
     form, found, at, last = compiled(pattern, finds=True), [], 0, -1
     while at <= len(text):

@@ -29,15 +29,15 @@ class WidePolicy:
     """A policy that is accepted, with the trees of its annotations by their place."""
 
     compiled: policies.Compiled
-    annotations: list = field(default_factory=list)
-    values: list = field(default_factory=list)
+    annotations: list[Any] = field(default_factory=list)
+    values: list[Any] = field(default_factory=list)
 
 
 def without_nulls(value: Any) -> Any:
     return {key: one for key, one in value.items() if one is not None} if isinstance(value, dict) else value
 
 
-def entries(spec: dict, key: str) -> list:
+def entries(spec: dict[str, Any], key: str) -> list[Any]:
     """The entries of a list, without nulls, and with trimmed texts."""
     made = [without_nulls(one) for one in spec.get(key, [])]
     for one in made:
@@ -46,7 +46,7 @@ def entries(spec: dict, key: str) -> list:
     return made
 
 
-def spec_of(document: Any) -> dict:
+def spec_of(document: Any) -> dict[str, Any]:
     """The specification of a policy, or the first of K2 to K5 and K8."""
     whole = without_nulls(document)
     demand(isinstance(whole, dict) and whole.get("kind") == policies.KIND, "K2")
@@ -65,7 +65,7 @@ def spec_of(document: Any) -> dict:
     return spec
 
 
-def part_of(part: str, place: int, read_part: Callable) -> Any:
+def part_of(part: str, place: int, read_part: Callable[..., Any]) -> Any:
     """The tree of a part, or its refusal: K7 and K9 alone, others as K6 with the part."""
     try:
         return read_part()
@@ -102,13 +102,13 @@ def read(document: Any) -> WidePolicy:
     return WidePolicy(made, spec["auditAnnotations"], values)
 
 
-def meaning_over(policy: WidePolicy, roots: dict) -> Meaning:
+def meaning_over(policy: WidePolicy, roots: dict[str, Any]) -> Meaning:
     lazy = Variables(policy.compiled.variables)
     lazy.meaning = Meaning(roots, lazy)
     return lazy.meaning
 
 
-def gate(policy: WidePolicy, roots: dict) -> Any:
+def gate(policy: WidePolicy, roots: dict[str, Any]) -> Any:
     """The outcome that the conditions give, or None if they hold; they have no namespace."""
     meaning = Meaning({**roots, "namespaceObject": None}, {})
     found = [verdicts.result_of(meaning.of(tree)) for tree in policy.compiled.conditions]
@@ -119,7 +119,7 @@ def gate(policy: WidePolicy, roots: dict) -> Any:
     return None
 
 
-def verdict_of(policy: WidePolicy, roots: dict) -> verdicts.Verdict:
+def verdict_of(policy: WidePolicy, roots: dict[str, Any]) -> verdicts.Verdict:
     """What a policy decides over these roots, without its annotations."""
     outcome, meaning = gate(policy, roots), meaning_over(policy, roots)
     if outcome is not None:
@@ -135,10 +135,10 @@ def verdict_of(policy: WidePolicy, roots: dict) -> verdicts.Verdict:
     return verdicts.Verdict(Costs(), outcome, results, denials)
 
 
-def annotated(policy: WidePolicy, evaluations: list) -> tuple:
+def annotated(policy: WidePolicy, evaluations: list[Any]) -> tuple[Any, ...]:
     """The denials of a policy's annotations over the roots of its evaluations, and the texts by key."""
     denials: list[str] = []
-    collected: dict[str, dict] = {}
+    collected: dict[str, dict[str, Any]] = {}
     for roots in evaluations:
         if gate(policy, roots) is not None:
             continue

@@ -1,12 +1,11 @@
 """Wide expressions that are in the profile too, and what the evaluator of the profile says of them."""
 
-from typing import Any, Optional
+from typing import Any, Iterable, Optional
 
 from ..evaluator import grammar, macros, trees, types
 from ..evaluator.costs import Costs
 from ..evaluator.meaning import Meaning
 from ..evaluator.refused import Refused
-from ..evaluator.values import ERROR
 from . import trees as wide
 from .cases import Case, Due
 from .grammar import read
@@ -16,10 +15,10 @@ from .results import alike
 ALLOWED = "Y2"
 
 
-class Lazy(dict):
+class Lazy(dict[str, Any]):
     """The values of variables, each evaluated when it is first used."""
 
-    def __init__(self, known: dict, roots: dict):
+    def __init__(self, known: dict[str, Any], roots: dict[str, Any]):
         super().__init__()
         self.known = known
         self.meaning = Meaning(roots, self, Costs())
@@ -33,19 +32,19 @@ class Profile:
     """The trees of a case in the profile; raises Refused if it is not in it."""
 
     def __init__(self, case: Case):
-        self.variables: dict = {}
-        self.scope: dict = {}
+        self.variables: dict[str, Any] = {}
+        self.scope: dict[str, Any] = {}
         for name, text in case.variables.items():
             self.variables[name], self.scope[name] = self.taken(text)
         self.tree, _ = self.taken(case.text)
         # the wide language drops pairs of one sign
         self.has_pairs = any(without_signs(tree)[1] for tree in (self.tree, *self.variables.values()))
 
-    def taken(self, text: str) -> tuple:
+    def taken(self, text: str) -> tuple[Any, ...]:
         tree = macros.expand(grammar.read(text))
         return tree, types.check(tree, self.scope)
 
-    def result(self, roots: dict) -> Any:
+    def result(self, roots: dict[str, Any]) -> Any:
         return Lazy(self.variables, roots).meaning.of(self.tree)
 
 
@@ -57,7 +56,7 @@ def in_profile(case: Case) -> Optional[Profile]:
         return None
 
 
-def without_signs(tree: Any) -> tuple:
+def without_signs(tree: Any) -> tuple[Any, ...]:
     """A tree of the profile without pairs of one sign, and whether it had some."""
     changed = False
 
@@ -79,7 +78,12 @@ def without_signs(tree: Any) -> tuple:
 
 def as_profile(tree: Any) -> Any:
     """A wide tree as one of the profile, which has all of its forms."""
-    one, several = as_profile, lambda parts: tuple(map(as_profile, parts))
+    one = as_profile
+
+    def several(parts: Iterable[Any]) -> tuple[Any, ...]:
+        """Several trees."""
+        return tuple(map(as_profile, parts))
+
     if isinstance(tree, wide.Literal):
         return trees.Literal(tree.value)
     if isinstance(tree, wide.Name):

@@ -19,7 +19,7 @@ MOST_EXPONENT = 4_000
 class Spelled:
     """A text as the grammar of quantities divides it."""
 
-    def __init__(self, match: re.Match):
+    def __init__(self, match: re.Match[str]):
         sign, self.whole, point, self.places, suffix = match.groups("")
         self.sign = -1 if sign == "-" else 1
         self.binary = BINARY.get(suffix)

@@ -6,10 +6,7 @@ from .calls import format_tested, qualified
 from .kinds import is_type_test, is_variables
 from .refused import refuse
 from .texts import METHODS as OF_TEXTS
-from .trees import (
-    Call, Field, Has, Index, ListLiteral, Literal, Macro, MapLiteral, Method, Name, Operation, Ternary, Uint,
-    bodies, parts,
-)
+from .trees import Call, Field, Has, Index, ListLiteral, Literal, Macro, MapLiteral, Method, Name, Operation, Ternary, Uint, bodies, parts
 
 FUNCTIONS = (
     "int", "isQuantity", "quantity", "duration", "timestamp", "isSemver", "semver", "isIP", "ip", "isCIDR",
@@ -49,10 +46,10 @@ class Reach:
     `variables` is a dict from names to whether the values of their expressions are known.
     """
 
-    def __init__(self, variables: dict):
+    def __init__(self, variables: dict[str, Any]):
         self.variables = variables
 
-    def of(self, tree: Any, names: dict) -> bool:
+    def of(self, tree: Any, names: dict[str, Any]) -> bool:
         """Whether the values of a tree are known from the documents."""
         if isinstance(tree, (Literal, Uint, Has)):
             return True
@@ -72,25 +69,25 @@ class Reach:
             return self.of_macro(tree, names)
         return self.of_call(tree, names)
 
-    def of_operation(self, tree: Operation, names: dict) -> bool:
+    def of_operation(self, tree: Operation, names: dict[str, Any]) -> bool:
         if tree.sign in ("+", "-", "*") and len(tree.operands) == 2:
             return all(self.of(one, names) for one in tree.operands)
         # comparisons and logic are true or false
         return tree.sign in ("!", "&&", "||", "==", "!=", "<", "<=", ">", ">=", "in")
 
-    def inner(self, tree: Macro, names: dict) -> dict:
+    def inner(self, tree: Macro, names: dict[str, Any]) -> dict[str, Any]:
         """The names inside a macro; a range keeps the names of its own place."""
-        known: Callable = lambda: self.of(tree.range, names)
+        known: Callable[..., Any] = lambda: self.of(tree.range, names)
         return {**names, **dict.fromkeys(tree.names, known)}
 
-    def of_macro(self, tree: Macro, names: dict) -> bool:
+    def of_macro(self, tree: Macro, names: dict[str, Any]) -> bool:
         if tree.word == "filter":
             return self.of(tree.range, names)
         if tree.transform is not None:
             return self.of(tree.transform, self.inner(tree, names))
         return False
 
-    def of_call(self, tree: Any, names: dict) -> bool:
+    def of_call(self, tree: Any, names: dict[str, Any]) -> bool:
         given = [self.of(part, names) for part in parts(tree)]
         if isinstance(tree, Call):
             return tree.function in ("string", "size", "dyn", *FUNCTIONS) and all(given)
@@ -99,11 +96,11 @@ class Reach:
             return name.startswith("optional.") and all(given[1:])
         return tree.method in (*METHODS, *OF_ITEMS, "or", "orValue", "value", "size") and all(given)
 
-    def demand(self, tree: Any, names: dict, name: str) -> None:
+    def demand(self, tree: Any, names: dict[str, Any], name: str) -> None:
         if not self.of(tree, names):
             refuse("W7", tree.place, name)
 
-    def check(self, tree: Any, names: dict) -> None:
+    def check(self, tree: Any, names: dict[str, Any]) -> None:
         """Refuses the first argument of a function of texts that is not known."""
         if isinstance(tree, Macro):
             self.check_macro(tree, names)
@@ -119,7 +116,7 @@ class Reach:
             if tree.operands[1].name in KINDS_WITH_TEXTS:
                 self.demand(tree.operands[0].arguments[0], names, "type")
 
-    def check_method(self, tree: Method, names: dict) -> None:
+    def check_method(self, tree: Method, names: dict[str, Any]) -> None:
         tested = format_tested(tree)
         if tested:
             self.demand(tested[1], names, tested[0])
@@ -129,7 +126,7 @@ class Reach:
             for part in parts(tree):
                 self.demand(part, names, tree.method)
 
-    def check_macro(self, tree: Macro, names: dict) -> None:
+    def check_macro(self, tree: Macro, names: dict[str, Any]) -> None:
         self.check(tree.range, names)
         is_indexed = len(tree.names) == 2 and not isinstance(tree.range, MapLiteral)
         if is_indexed and any(uses(part, tree.names[0]) for part in bodies(tree)):
@@ -138,7 +135,7 @@ class Reach:
             self.check(part, self.inner(tree, names))
 
 
-def check(tree: Any, variables: dict) -> bool:
+def check(tree: Any, variables: dict[str, Any]) -> bool:
     """Whether the values of a tree are known; W7 refuses an unknown argument of a function of texts."""
     reach = Reach(variables)
     reach.check(tree, {})

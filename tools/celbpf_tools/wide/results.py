@@ -50,8 +50,8 @@ class Timestamp:
 class Semver:
     """The three numbers, and what orders the pre-release after them."""
 
-    numbers: tuple
-    release: tuple
+    numbers: tuple[Any, ...]
+    release: tuple[Any, ...]
 
 
 @dataclass(frozen=True)
@@ -97,5 +97,5 @@ def kind_of(result: Any) -> str:
     return "typed" if is_typed(result) else kind(result)
 
 
-def kinds_of(*results: Any) -> tuple:
+def kinds_of(*results: Any) -> tuple[Any, ...]:
     return tuple(kind_of(result) for result in results)

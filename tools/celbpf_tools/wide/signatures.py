@@ -25,7 +25,7 @@ OPTIONAL_DYN = Opt("Dyn")
 TEXT, INT, LIST, SIZED = ("String",), ("Int",), ("List",), ("String", "List", "Map")
 
 # name: (kinds of the arguments, number at least, result)
-FUNCTIONS: dict[str, tuple[tuple, int, Any]] = {
+FUNCTIONS: dict[str, tuple[tuple[Any, ...], int, Any]] = {
     "size": ((SIZED,), 1, "Int"),
     "string": ((("String", "Int", "Bool"),), 1, "String"),
     "dyn": ((ANY,), 1, "Dyn"),
@@ -60,7 +60,7 @@ MAKERS = {
 KINDS_TESTED = ("int", "string", "bool", "null_type", "list", "map")
 
 # name: signatures, of which the first that takes the receiver counts
-METHODS: dict[str, list[tuple[tuple, tuple, int, Any]]] = {
+METHODS: dict[str, list[tuple[tuple[Any, ...], tuple[Any, ...], int, Any]]] = {
     "size": [(SIZED, (), 0, "Int")],
     "startsWith": [(TEXT, (TEXT,), 1, "Bool")],
     "endsWith": [(TEXT, (TEXT,), 1, "Bool")],
@@ -93,7 +93,7 @@ OF_DURATIONS = ("getHours", "getMinutes", "getSeconds", "getMilliseconds")
 OF_TIMESTAMPS = (
     *OF_DURATIONS, "getFullYear", "getMonth", "getDate", "getDayOfMonth", "getDayOfWeek", "getDayOfYear",
 )
-OF_TYPED: dict[str, dict[str, tuple[tuple, int, str]]] = {
+OF_TYPED: dict[str, dict[str, tuple[tuple[Any, ...], int, str]]] = {
     "Quantity": {
         **{name: ((("Quantity",),), 1, result) for name, result in COMPARES.items()},
         "add": ((("Quantity", "literal"),), 1, "Quantity"),

@@ -3,7 +3,7 @@
 import re
 from typing import Any, Optional
 
-from ..evaluator.values import in_range, ERROR
+from ..evaluator.values import ERROR, in_range
 
 INT = re.compile(r"[+-]?[0-9]+")
 TRUE = ("1", "t", "T", "true", "TRUE", "True")
@@ -71,7 +71,7 @@ def last_index_of(text: str, part: str, most: Optional[int] = None) -> Optional[
     return text.rfind(part, 0, most + len(part)) if most < len(text) else -1
 
 
-def split(text: str, separator: str, most: int = -1) -> list:
+def split(text: str, separator: str, most: int = -1) -> list[Any]:
     if most == 0:
         return []
     if separator:
@@ -86,7 +86,7 @@ def replaced(text: str, old: str, new: str, most: int = -1) -> str:
 
 
 # the kinds of the arguments after the text, of which those after `least` may be missing
-METHODS: dict[str, tuple[Any, tuple, int]] = {
+METHODS: dict[str, tuple[Any, tuple[Any, ...], int]] = {
     "lowerAscii": (lambda text: in_ascii(text, UPPER, LOWER), (), 0),
     "upperAscii": (lambda text: in_ascii(text, LOWER, UPPER), (), 0),
     "trim": (lambda text: text.strip(BLANKS), (), 0),

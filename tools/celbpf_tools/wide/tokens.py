@@ -96,7 +96,7 @@ class Tokens:
             value, self.at = spelled[1 if kind == "quoted" else 0], spelled.end()
         self.found.append(Token(self.place(begins), kind, value))
 
-    def int_at(self, digits: int, sign: int) -> tuple:
+    def int_at(self, digits: int, sign: int) -> tuple[Any, ...]:
         """The kind and number of the int or uint there, and where it ends."""
         spelled = FORMS["int"].match(self.text, digits)
         number = int(spelled[1], 16 if spelled[1].startswith("0x") else 10) * sign
@@ -105,7 +105,7 @@ class Tokens:
             refuse("P3", self.place(digits))
         return "uint" if spelled[2] else "int", number, spelled.end()
 
-    def text_at(self, begins: int) -> tuple:
+    def text_at(self, begins: int) -> tuple[Any, ...]:
         """The kind and value of the text or bytes literal there, and where it ends."""
         opening = FORMS["text"].match(self.text, begins)[0]
         prefix = opening.rstrip("'\"").lower()
@@ -120,7 +120,7 @@ class Tokens:
             said.append(character)
         return "bytes" if "b" in prefix else "text", "".join(said), at + len(quote)
 
-    def escape(self, begins: int, at: int) -> tuple:
+    def escape(self, begins: int, at: int) -> tuple[Any, ...]:
         """The character of the escape after a backslash, and where it ends."""
         if self.text[at : at + 1] in SIMPLE:
             return SIMPLE[self.text[at]], at + 1
@@ -134,7 +134,7 @@ class Tokens:
         return chr(number), spelled.end()
 
 
-def tokens(text: str) -> list:
+def tokens(text: str) -> list[Any]:
     """The tokens of a text, or the first of P6, P1, P2 and P3."""
     if len(text.encode()) > MOST_BYTES:
         refuse("P6", MOST_BYTES)

@@ -67,7 +67,7 @@ class Operation(Node):
     """An operator before one operand or between two."""
 
     sign: str
-    operands: tuple
+    operands: tuple[Any, ...]
 
 
 @dataclass(frozen=True)
@@ -83,14 +83,14 @@ class Ternary(Node):
 class ListLiteral(Node):
     """`[a, ?b]`: pairs of whether an item is optional, and the item."""
 
-    items: tuple
+    items: tuple[Any, ...]
 
 
 @dataclass(frozen=True)
 class MapLiteral(Node):
     """`{k: a, ?k: b}`: triples of whether an entry is optional, its key and its value."""
 
-    entries: tuple
+    entries: tuple[Any, ...]
 
 
 @dataclass(frozen=True)
@@ -98,7 +98,7 @@ class Call(Node):
     """`function(a, b)`; `dotted` if a dot precedes the name."""
 
     function: str
-    arguments: tuple
+    arguments: tuple[Any, ...]
     dotted: bool = False
 
 
@@ -108,7 +108,7 @@ class Method(Node):
 
     target: Any
     method: str
-    arguments: tuple
+    arguments: tuple[Any, ...]
     named: int = field(compare=False, default=0)
 
 
@@ -118,18 +118,18 @@ class Macro(Node):
 
     word: str
     range: Any
-    names: tuple
+    names: tuple[Any, ...]
     predicate: Any
     transform: Any
     named: int = field(compare=False, default=0)
 
 
-def bodies(macro: Macro) -> list:
+def bodies(macro: Macro) -> list[Any]:
     """The predicate and the transform of a macro, as far as it has them."""
     return [part for part in (macro.predicate, macro.transform) if part is not None]
 
 
-def parts(tree: Any) -> list:
+def parts(tree: Any) -> list[Any]:
     """The parts of a node, from left to right."""
     if isinstance(tree, (Field, Has)):
         return [tree.operand]

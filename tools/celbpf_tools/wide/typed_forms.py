@@ -5,11 +5,11 @@ from typing import Any
 from ..seeded.expressions import MEMBER, RELATION, TERNARY, Expressions
 from ..seeded.texts import text_literal
 from . import documents
-from .signatures import KINDS_TESTED, OF_TIMESTAMPS, OF_DURATIONS
+from .signatures import KINDS_TESTED, OF_DURATIONS, OF_TIMESTAMPS
 from .texts import NAMED_FORMATS
 
 # texts of each function's form, and the path that documents mostly have one at
-FORMS: dict[str, tuple[list, str]] = {
+FORMS: dict[str, tuple[list[Any], str]] = {
     "quantity": (documents.QUANTITIES, "object.spec.typed.cpu"),
     "duration": (documents.DURATIONS, "object.spec.typed.lasting"),
     "timestamp": (documents.TIMESTAMPS, "object.spec.typed.since"),
@@ -85,7 +85,7 @@ class TypedForms(Expressions):
             return f"({made} - {self.typed('duration', 0)})"
         return f"({self.typed('timestamp', 0)} - {self.typed('timestamp', 0)})"
 
-    def compared_typed(self, _: str, room: int) -> tuple:
+    def compared_typed(self, _: str, room: int) -> tuple[Any, ...]:
         """A comparison of two typed values of one kind."""
         numbers = self.numbers
         name = numbers.pick(list(FORMS)[:6])
@@ -95,7 +95,7 @@ class TypedForms(Expressions):
         signs = ["==", "!=", "<", "<=", ">", ">="] if name in ORDERED else ["==", "!="]
         return self.between(left, numbers.pick(signs), right), RELATION
 
-    def int_of_typed(self, _: str, room: int) -> tuple:
+    def int_of_typed(self, _: str, room: int) -> tuple[Any, ...]:
         """An int of a typed value, or of a text."""
         numbers = self.numbers
         chosen = numbers.pick([0, 1, 2, 3, 4, 4, 5, 5, 5, 6, 7, 8])
@@ -116,7 +116,7 @@ class TypedForms(Expressions):
         ]
         return made[chosen](), MEMBER
 
-    def bool_of_text(self, _: str, room: int) -> tuple:
+    def bool_of_text(self, _: str, room: int) -> tuple[Any, ...]:
         """A test of a text's form, or of a typed value."""
         numbers = self.numbers
         name = numbers.pick(list(TESTED))
@@ -136,24 +136,24 @@ class TypedForms(Expressions):
     def contained(self) -> str:
         return self.numbers.pick([self.known_text("ip"), f"ip({self.known_text('ip')})"])
 
-    def type_tested(self, _: str, room: int) -> tuple:
+    def type_tested(self, _: str, room: int) -> tuple[Any, ...]:
         paths = ["object.spec.replicas", "object.spec.args", "object.spec.none", "oldObject", "object.spec.paused"]
         numbers = self.numbers
         path = numbers.pick([*paths, *TEXTS])
         return f"type({path}) {numbers.pick(['==', '==', '!='])} {numbers.pick(KINDS_TESTED)}", RELATION
 
-    def matched(self, _: str, room: int) -> tuple:
+    def matched(self, _: str, room: int) -> tuple[Any, ...]:
         pattern = self.numbers.pick([f"'{self.numbers.pick(PATTERNS)}'"] * 5 + ["params.prefix"])
         return f"{self.reached_text()}.matches({pattern})", MEMBER
 
-    def found(self, kind: str, room: int) -> tuple:
+    def found(self, kind: str, room: int) -> tuple[Any, ...]:
         pattern = self.numbers.pick(PATTERNS)
         if kind == "text":
             return f"{self.reached_text()}.find('{pattern}')", MEMBER
         most = self.numbers.pick(["", "", ", 1", ", -1", ", 0"])
         return f"{self.reached_text()}.findAll('{pattern}'{most})", MEMBER
 
-    def cut(self, kind: str, room: int) -> tuple:
+    def cut(self, kind: str, room: int) -> tuple[Any, ...]:
         """A text cut or changed, or the list of its parts."""
         numbers, text = self.numbers, self.reached_text()
         part, other = (text_literal(numbers, numbers.pick(PARTS)) for _ in range(2))
@@ -166,7 +166,7 @@ class TypedForms(Expressions):
             f"{text}.substring({place})", f"{text}.substring(0, {place})", f"{text}.replace({part}, {other}{most})",
         ]), MEMBER
 
-    def place_of(self, _: str, room: int) -> tuple:
+    def place_of(self, _: str, room: int) -> tuple[Any, ...]:
         """The place of a part in a text, or of an item in a list."""
         numbers, word = self.numbers, self.numbers.pick(["indexOf", "lastIndexOf"])
         if numbers.one_in(3):
@@ -174,7 +174,7 @@ class TypedForms(Expressions):
         offset = numbers.pick(["", "", ", 0", ", 2", ", -1", ", 50"])
         return f"{self.reached_text()}.{word}({text_literal(numbers, numbers.pick(PARTS))}{offset})", MEMBER
 
-    def formatted(self, _: str, room: int) -> tuple:
+    def formatted(self, _: str, room: int) -> tuple[Any, ...]:
         numbers = self.numbers
         verbs = [numbers.pick(["%s", "%s", "%d"]) for _ in range(numbers.below(4))]
         kinds = ["int" if verb == "%d" else numbers.pick(["text", "int", "bool"]) for verb in verbs]

@@ -16,7 +16,7 @@ MOST = 2**64
 PREFIX = re.compile(r"0|[1-9][0-9]*")
 
 
-def rank(identifier: str) -> tuple:
+def rank(identifier: str) -> tuple[Any, ...]:
     """What orders an identifier of a pre-release: numbers are below names."""
     return (0, int(identifier), "") if identifier.isdigit() else (1, 0, identifier)
 
@@ -88,7 +88,7 @@ def contains(given: CIDR, one: IP) -> bool:
     return host.version == whole.version and host in whole
 
 
-ADDRESS_PARTS = {
+ADDRESS_PARTS: dict[str, Any] = {
     "family": lambda host: host.version,
     "isUnspecified": lambda host: host.is_unspecified,
     "isLoopback": lambda host: host.is_loopback,

@@ -30,14 +30,14 @@ EXEMPT = {
 class Attributes:
     """What a request asks for. `kind` and `resource` are group, version and name; absent texts are empty."""
 
-    kind: tuple
-    resource: tuple
+    kind: tuple[Any, ...]
+    resource: tuple[Any, ...]
     subresource: str
     name: str
     namespace: str
     operation: str
-    new: Optional[dict]
-    old: Optional[dict]
+    new: Optional[dict[str, Any]]
+    old: Optional[dict[str, Any]]
 
     @property
     def is_exempt(self) -> bool:
@@ -45,13 +45,13 @@ class Attributes:
         return (self.resource[0], self.resource[2]) in EXEMPT
 
 
-def triple(value: Any, last: str) -> tuple:
+def triple(value: Any, last: str) -> tuple[Any, ...]:
     """A group, version and kind or resource."""
     demand(isinstance(value, dict), "N2")
     return text(value, "group", "N2", ""), text(value, "version", "N2"), text(value, last, "N2")
 
 
-def thing(request: Any, key: str) -> Optional[dict]:
+def thing(request: Any, key: str) -> Optional[dict[str, Any]]:
     """An object or None."""
     found = field(request, key)
     demand(found is None or isinstance(found, dict), "N2")

@@ -28,7 +28,7 @@ class Binding:
 
     name: str
     policy: str
-    actions: list
+    actions: list[Any]
     resources: matching.MatchResources
     params: Optional[ParamRef] = None
 
@@ -45,7 +45,7 @@ def read_params(value: Any, refusal: str) -> Optional[ParamRef]:
     return ParamRef(name, text(value, "namespace", refusal, ""), wanted, action == "Deny")
 
 
-def read_actions(spec: Any, refusal: str) -> list:
+def read_actions(spec: Any, refusal: str) -> list[Any]:
     """One to three actions, no two the same, and not Deny with Warn."""
     actions = texts(spec, "validationActions", refusal)
     demand(actions and len(set(actions)) == len(actions) and set(actions) <= ACTIONS, refusal)
@@ -53,7 +53,7 @@ def read_actions(spec: Any, refusal: str) -> list:
     return actions
 
 
-def read(item: dict) -> Binding:
+def read(item: dict[str, Any]) -> Binding:
     """A binding, or C5."""
     refusal, spec = f"C5 {name_of(item)}", field(item, "spec")
     only(spec, BINDING_KEYS, refusal)
@@ -68,7 +68,7 @@ def read(item: dict) -> Binding:
     )
 
 
-def read_kind(spec: Any, refusal: str) -> Optional[tuple]:
+def read_kind(spec: Any, refusal: str) -> Optional[tuple[Any, ...]]:
     """The kind of params that a policy names, which may be absent."""
     found = field(spec, "paramKind")
     if found is None:

@@ -28,7 +28,7 @@ class NamespaceNotFound(Exception):
     """The namespace of the request is not in the state: the dispatch ends."""
 
 
-def chosen(found: list, reference: ParamRef) -> list:
+def chosen(found: list[Any], reference: ParamRef) -> list[Any]:
     """The objects that a reference takes, in the order of their names."""
     if reference.selector is None:
         taken = [thing for thing in found if name_of(thing) == reference.name]
@@ -40,7 +40,7 @@ def chosen(found: list, reference: ParamRef) -> list:
 class Dispatch:
     """One request against a state."""
 
-    def __init__(self, state: State, attributes: Attributes, request: dict):
+    def __init__(self, state: State, attributes: Attributes, request: dict[str, Any]):
         self.state, self.attributes = state, attributes
         self.request = {key: value for key, value in request.items() if key not in ("object", "oldObject")}
         self.events = Events()
@@ -48,9 +48,9 @@ class Dispatch:
     def deny(self, policy: Policy, binding: Optional[Binding], message: str) -> None:
         """A configuration error, which denies under Fail."""
         if not policy.ignores:
-            self.events.denials.append(Denial(policy.name, binding and binding.name, message, INVALID))
+            self.events.denials.append(Denial(policy.name, binding.name if binding else None, message, INVALID))
 
-    def params(self, policy: Policy, binding: Binding) -> Union[list, Trouble]:
+    def params(self, policy: Policy, binding: Binding) -> Union[list[Any], Trouble]:
         """The params of a binding, or a Trouble."""
         reference = binding.params
         if policy.kind is None or reference is None:
@@ -67,7 +67,7 @@ class Dispatch:
             return Trouble(NO_PARAMS)
         return taken
 
-    def namespace_object(self) -> Optional[dict]:
+    def namespace_object(self) -> Optional[dict[str, Any]]:
         """The root `namespaceObject`; a namespace that is not there ends the dispatch."""
         asked = self.attributes
         if asked.kind == CORE_NAMESPACE or asked.namespace == "":
@@ -76,7 +76,7 @@ class Dispatch:
             raise NamespaceNotFound
         return self.state.namespaces[asked.namespace]
 
-    def roots(self, params: Any, namespace: Optional[dict]) -> dict:
+    def roots(self, params: Any, namespace: Optional[dict[str, Any]]) -> dict[str, Any]:
         """The five roots, or N2 or N3."""
         given = [self.attributes.new, self.attributes.old, params, namespace, self.request]
         for value, refusal in zip(given, REFUSALS):
@@ -86,7 +86,7 @@ class Dispatch:
             raise Refused("N2")
         return dict(zip(ROOTS, given))
 
-    def evaluate(self, policy: Policy, binding: Binding, params: Any, namespace: Optional[dict]) -> None:
+    def evaluate(self, policy: Policy, binding: Binding, params: Any, namespace: Optional[dict[str, Any]]) -> None:
         """Adds the findings of one evaluation, by the binding's actions; or N2 or N3."""
         verdict = verdicts.verdict_of(policy.compiled, self.roots(params, namespace))
         for finding in findings(policy.compiled.policy, verdict):

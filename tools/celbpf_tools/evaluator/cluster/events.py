@@ -1,6 +1,7 @@
 """What a dispatch meets, and the findings of one evaluation."""
 
-from dataclasses import dataclass, field as member
+from dataclasses import dataclass
+from dataclasses import field as member
 from typing import Any, Optional
 
 from .. import verdicts
@@ -30,7 +31,7 @@ class Failure:
     binding: str
     place: int
     message: str
-    actions: list
+    actions: list[Any]
 
 
 @dataclass
@@ -46,10 +47,10 @@ class Refusal:
 class Events:
     """What the dispatch met, in order."""
 
-    denials: list = member(default_factory=list)
-    warnings: list = member(default_factory=list)
-    failures: list = member(default_factory=list)
-    refusals: list = member(default_factory=list)
+    denials: list[Any] = member(default_factory=list)
+    warnings: list[Any] = member(default_factory=list)
+    failures: list[Any] = member(default_factory=list)
+    refusals: list[Any] = member(default_factory=list)
     not_found: Optional[str] = None
 
     @property
@@ -58,7 +59,7 @@ class Events:
         under_fail = [one for one in self.refusals if not one.ignores]
         return next(iter(under_fail + self.refusals), None)
 
-    def add(self, policy: str, binding: Any, finding: tuple) -> None:
+    def add(self, policy: str, binding: Any, finding: tuple[Any, ...]) -> None:
         """Adds a finding, for each action of the binding."""
         place, message, reason = finding
         for action in binding.actions:
@@ -75,7 +76,7 @@ def trimmed(text: str) -> str:
     return text.strip(BLANKS)
 
 
-def message_of(validation: dict, value: Any) -> str:
+def message_of(validation: dict[str, Any], value: Any) -> str:
     """The message of a validation that is false, whose message expression gave this value."""
     if isinstance(value, str):
         text = trimmed(value)
@@ -84,7 +85,7 @@ def message_of(validation: dict, value: Any) -> str:
     return trimmed(validation.get("message", "")) or f"failed expression: {trimmed(validation['expression'])}"
 
 
-def findings(policy: Any, verdict: verdicts.Verdict) -> list:
+def findings(policy: Any, verdict: verdicts.Verdict) -> list[Any]:
     """Place, message and reason of each validation that fails, for a policy as its document has it."""
     if verdict.outcome == verdicts.REJECTED:
         return [(0, NOT_DECIDED, INVALID)]

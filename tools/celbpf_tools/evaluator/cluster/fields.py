@@ -29,7 +29,7 @@ def text(value: Any, key: str, refusal: str, default: Optional[str] = None) -> s
     return found
 
 
-def items(value: Any, key: str, refusal: str, kind: type) -> list:
+def items(value: Any, key: str, refusal: str, kind: type) -> list[Any]:
     """A list of this kind of items, empty if absent."""
     found = field(value, key)
     if found is None:
@@ -38,17 +38,17 @@ def items(value: Any, key: str, refusal: str, kind: type) -> list:
     return found
 
 
-def texts(value: Any, key: str, refusal: str) -> list:
+def texts(value: Any, key: str, refusal: str) -> list[Any]:
     """A list of texts, empty if absent."""
     return items(value, key, refusal, str)
 
 
-def objects(value: Any, key: str, refusal: str) -> list:
+def objects(value: Any, key: str, refusal: str) -> list[Any]:
     """A list of objects, empty if absent."""
     return items(value, key, refusal, dict)
 
 
-def text_map(value: Any, refusal: str) -> dict:
+def text_map(value: Any, refusal: str) -> dict[str, Any]:
     """A map of texts, empty if absent."""
     if value is None:
         return {}
@@ -56,7 +56,7 @@ def text_map(value: Any, refusal: str) -> dict:
     return value
 
 
-def only(value: Any, keys: tuple, refusal: str) -> None:
+def only(value: Any, keys: tuple[Any, ...], refusal: str) -> None:
     """An object with no other keys than these."""
     demand(isinstance(value, dict) and value.keys() <= set(keys), refusal)
 

@@ -19,9 +19,9 @@ class Requirement:
 
     key: str
     operator: str
-    values: tuple
+    values: tuple[Any, ...]
 
-    def fits(self, labels: dict) -> bool:
+    def fits(self, labels: dict[str, Any]) -> bool:
         """Whether labels meet it."""
         present = self.key in labels
         if self.operator == "In":
@@ -34,14 +34,14 @@ class Requirement:
 class Selector:
     """A selector as its requirements."""
 
-    def __init__(self, requirements: Iterable = ()):
+    def __init__(self, requirements: Iterable[Any] = ()):
         self.requirements = tuple(requirements)
 
     @property
     def is_empty(self) -> bool:
         return not self.requirements
 
-    def selects(self, labels: dict) -> bool:
+    def selects(self, labels: dict[str, Any]) -> bool:
         return all(requirement.fits(labels) for requirement in self.requirements)
 
 
@@ -57,7 +57,7 @@ def is_value(value: str) -> bool:
     return value == "" or NAME.fullmatch(value) is not None
 
 
-def read_expression(expression: dict, refusal: str) -> Requirement:
+def read_expression(expression: dict[str, Any], refusal: str) -> Requirement:
     """One entry of `matchExpressions`."""
     only(expression, ("key", "operator", "values"), refusal)
     key, operator = text(expression, "key", refusal), text(expression, "operator", refusal)
@@ -79,7 +79,7 @@ def read(value: Any, refusal: str) -> Selector:
     return Selector(requirements)
 
 
-def labels_of(thing: Any) -> dict:
+def labels_of(thing: Any) -> dict[str, Any]:
     """The labels of an object, none if they are absent or not a map of texts."""
     found = field(thing, "metadata", "labels")
     if isinstance(found, dict) and all(isinstance(one, str) for one in found.values()):

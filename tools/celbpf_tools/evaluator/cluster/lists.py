@@ -12,27 +12,27 @@ NAMESPACES = ("v1", "Namespace")
 DEFINITIONS = ("apiextensions.k8s.io/v1", "CustomResourceDefinition")
 
 
-def group_version(api_version: str) -> tuple:
+def group_version(api_version: str) -> tuple[Any, ...]:
     group, slash, version = api_version.partition("/")
     return (group, version) if slash else ("", api_version)
 
 
-def items_of(whole: Any, refusal: str) -> list:
+def items_of(whole: Any, refusal: str) -> list[Any]:
     """The items of one list."""
     items = field(whole, "items")
     demand(field(whole, "apiVersion") == "v1" and field(whole, "kind") == "List" and isinstance(items, list), refusal)
     return items
 
 
-def kind_of(item: dict) -> tuple:
+def kind_of(item: dict[str, Any]) -> tuple[Any, ...]:
     return item["apiVersion"], item["kind"]
 
 
-def name_of(item: dict) -> str:
+def name_of(item: dict[str, Any]) -> str:
     return item["metadata"]["name"]
 
 
-def namespace_of(item: dict) -> str:
+def namespace_of(item: dict[str, Any]) -> str:
     return item["metadata"].get("namespace") or ""
 
 
@@ -49,7 +49,7 @@ def check(item: Any, refusal: str) -> None:
         demand(item["apiVersion"] == f"{GROUP}/v1", refusal)
 
 
-def read(lists: list) -> list:
+def read(lists: list[Any]) -> list[Any]:
     """The items of all lists, or the first of C1 to C3: with the place of a list or an item, or the name of an item."""
     wholes = [documents.read(text, f"C1 {place}") for place, text in enumerate(lists)]
     items = [item for place, whole in enumerate(wholes) for item in items_of(whole, f"C1 {place}")]

@@ -27,10 +27,10 @@ class MatchResources:
     policy: str = "Equivalent"
     namespaces: labels.Selector = labels.Selector()
     objects: labels.Selector = labels.Selector()
-    taken: tuple = ()
-    excluded: tuple = ()
+    taken: tuple[Any, ...] = ()
+    excluded: tuple[Any, ...] = ()
 
-    def namespace_answer(self, attributes: Attributes, namespaces: dict) -> Union[str, Trouble]:
+    def namespace_answer(self, attributes: Attributes, namespaces: dict[str, Any]) -> Union[str, Trouble]:
         """By the labels of the namespace."""
         is_namespace = attributes.resource[2] == "namespaces"
         if attributes.namespace == "" and not is_namespace:
@@ -55,7 +55,7 @@ class MatchResources:
         things = [one for one in (attributes.new, attributes.old) if labels.has_metadata(one)]
         return YES if any(self.objects.selects(labels.labels_of(one)) for one in things) else NO
 
-    def answer(self, attributes: Attributes, namespaces: dict) -> Union[str, Trouble]:
+    def answer(self, attributes: Attributes, namespaces: dict[str, Any]) -> Union[str, Trouble]:
         """YES, NO, UNKNOWN or a Trouble."""
         by_namespace = self.namespace_answer(attributes, namespaces)
         if by_namespace == NO or self.object_answer(attributes) == NO:

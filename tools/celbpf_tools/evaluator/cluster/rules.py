@@ -27,13 +27,13 @@ class Rule:
     """One rule; empty `names` take every name."""
 
     scope: str
-    operations: list
-    groups: list
-    versions: list
-    resources: list
-    names: list
+    operations: list[Any]
+    groups: list[Any]
+    versions: list[Any]
+    resources: list[Any]
+    names: list[Any]
 
-    def fits(self, attributes: Attributes, resource: tuple) -> bool:
+    def fits(self, attributes: Attributes, resource: tuple[Any, ...]) -> bool:
         """Whether it fits the request, if that asked for this group, version and resource."""
         group, version, plural = resource
         is_cluster = resource == ("", "v1", "namespaces") or attributes.namespace == ""
@@ -51,7 +51,7 @@ class Rule:
         return any(self.fits(attributes, one) for one in candidates(self, attributes.resource))
 
 
-def has(names: list, name: str) -> bool:
+def has(names: list[Any], name: str) -> bool:
     return "*" in names or name in names
 
 
@@ -61,7 +61,7 @@ def covers(pattern: str, plural: str, subresource: str) -> bool:
     return main in ("*", plural) and sub in ("*", subresource)
 
 
-def candidates(rule: Rule, resource: tuple) -> Iterator[tuple]:
+def candidates(rule: Rule, resource: tuple[Any, ...]) -> Iterator[tuple[Any, ...]]:
     """The equivalent resources that a rule may take or not; all others are like one of them."""
     group, version, plural = resource
     versions = {*rule.versions, "v1", FRESH}
@@ -74,7 +74,7 @@ def candidates(rule: Rule, resource: tuple) -> Iterator[tuple]:
                 yield other_group, other, plural
 
 
-def answer(rules: Iterable, policy: str, attributes: Attributes) -> str:
+def answer(rules: Iterable[Any], policy: str, attributes: Attributes) -> str:
     """Whether some rule fits: yes, no, or that it depends on what the server serves."""
     if any(rule.fits(attributes, attributes.resource) for rule in rules):
         return YES
@@ -83,13 +83,13 @@ def answer(rules: Iterable, policy: str, attributes: Attributes) -> str:
     return NO
 
 
-def read_rule(value: dict, refusal: str) -> Rule:
+def read_rule(value: dict[str, Any], refusal: str) -> Rule:
     only(value, ("scope", *LISTS), refusal)
     scope = text(value, "scope", refusal, "*")
     demand(scope in SCOPES, refusal)
     return Rule(scope, *(texts(value, key, refusal) for key in LISTS))
 
 
-def read(value: Any, key: str, refusal: str) -> list:
+def read(value: Any, key: str, refusal: str) -> list[Any]:
     """The rules of a list, none if it is absent."""
     return [read_rule(one, refusal) for one in objects(value, key, refusal)]

@@ -1,5 +1,7 @@
 """What standard error gets before the first review."""
 
+from typing import Any
+
 from .state import Policy, State
 
 
@@ -11,5 +13,5 @@ def policy_line(state: State, policy: Policy) -> str:
     return f"{line}, blocked {policy.cause}" if policy.cause else line
 
 
-def policy_lines(state: State) -> list:
+def policy_lines(state: State) -> list[Any]:
     return [policy_line(state, policy) for policy in state.policies]

@@ -1,6 +1,7 @@
 """What a cluster holds, from lists as `kubectl get -o json` prints them."""
 
-from dataclasses import dataclass, field as member
+from dataclasses import dataclass
+from dataclasses import field as member
 from typing import Any, Optional
 
 from .. import policies
@@ -23,9 +24,9 @@ class Policy:
     name: str
     ignores: bool
     constraints: matching.MatchResources
-    kind: Optional[tuple]
-    document: dict
-    bindings: list
+    kind: Optional[tuple[Any, ...]]
+    document: dict[str, Any]
+    bindings: list[Any]
     compiled: Any = None
     cause: Optional[str] = None
 
@@ -39,16 +40,16 @@ class Policy:
 class State:
     """All items, the namespaces by name, and the bound policies by name."""
 
-    items: list
-    namespaces: dict
-    definitions: list
-    policies: list = member(default_factory=list)
+    items: list[Any]
+    namespaces: dict[str, Any]
+    definitions: list[Any]
+    policies: list[Any] = member(default_factory=list)
 
-    def of_kind(self, kind: Optional[tuple]) -> list:
+    def of_kind(self, kind: Optional[tuple[Any, ...]]) -> list[Any]:
         """The objects of a kind, in all namespaces."""
         return [item for item in self.items if kind_of(item) == kind]
 
-    def scope(self, kind: tuple) -> Optional[str]:
+    def scope(self, kind: tuple[Any, ...]) -> Optional[str]:
         """Whether objects of a kind have namespaces, or None if that is not known."""
         for definition in self.definitions:
             if serves(definition, kind):
@@ -59,7 +60,7 @@ class State:
             return None
         return NAMESPACED if any(map(namespace_of, found)) else CLUSTER
 
-    def knows(self, kind: tuple) -> bool:
+    def knows(self, kind: tuple[Any, ...]) -> bool:
         """Whether params of a kind can be found."""
         group, _ = group_version(kind[0])
         others = [
@@ -70,7 +71,7 @@ class State:
         return self.scope(kind) is not None and not others
 
 
-def serves(definition: dict, kind: tuple) -> bool:
+def serves(definition: dict[str, Any], kind: tuple[Any, ...]) -> bool:
     """Whether a CustomResourceDefinition serves a kind."""
     spec = field(definition, "spec")
     group, version = group_version(kind[0])
@@ -83,20 +84,20 @@ def serves(definition: dict, kind: tuple) -> bool:
     )
 
 
-def cluster_scoped(items: list, kind: tuple) -> list:
+def cluster_scoped(items: list[Any], kind: tuple[Any, ...]) -> list[Any]:
     """The objects of a kind that have no namespace, in the order of their names."""
     found = [item for item in items if kind_of(item) == kind and namespace_of(item) == ""]
     return sorted(found, key=lambda item: in_name_order(name_of(item)))
 
 
-def without_nulls(value: Any, keys: set) -> Any:
+def without_nulls(value: Any, keys: set[Any]) -> Any:
     """An object without those of these fields that are null; another value as it is."""
     if not isinstance(value, dict):
         return value
     return {key: part for key, part in value.items() if part is not None or key not in keys}
 
 
-def compiled_document(item: dict) -> dict:
+def compiled_document(item: dict[str, Any]) -> dict[str, Any]:
     """The document of a policy as it is compiled, without its status."""
     document = {key: value for key, value in item.items() if key != "status"}
     spec = without_nulls(document.get("spec"), SPEC_KEYS)
@@ -105,7 +106,7 @@ def compiled_document(item: dict) -> dict:
     return {**document, "spec": spec} if "spec" in document else document
 
 
-def read_policy(item: dict, own: list) -> Policy:
+def read_policy(item: dict[str, Any], own: list[Any]) -> Policy:
     """A policy with these bindings, or C6."""
     name, spec = name_of(item), field(item, "spec")
     constraints = matching.read(field(spec, "matchConstraints"), f"C6 {name}", True)
@@ -114,7 +115,7 @@ def read_policy(item: dict, own: list) -> Policy:
     return Policy(name, field(spec, "failurePolicy") == "Ignore", constraints, kind, document, own)
 
 
-def read(documents: list) -> State:
+def read(documents: list[Any]) -> State:
     """The state of these lists, with no policy compiled; or the first of C1 to C6."""
     items = lists.read(documents)
     namespaces = {name_of(item): item for item in cluster_scoped(items, NAMESPACES)}
@@ -144,7 +145,7 @@ def compile_policy(policy: Policy, state: State) -> Optional[str]:
     return None if policy.kind is None or state.knows(policy.kind) else "C8"
 
 
-def opened(documents: list, partial: bool = False) -> State:
+def opened(documents: list[Any], partial: bool = False) -> State:
     """The state with its policies compiled; with `partial` those that are refused stay, and are blocked."""
     state = read(documents)
     for policy in state.policies:

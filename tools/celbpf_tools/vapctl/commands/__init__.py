@@ -16,6 +16,7 @@ WHATS = {
     "debug": "debug a decision step by step, forward and back",
     "lint": "show all that is refused in policies",
     "compile": "write the image of a policy's program",
+    "translate": "print a policy as it is compiled",
 }
 
 

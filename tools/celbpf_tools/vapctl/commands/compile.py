@@ -5,21 +5,24 @@ import json
 import shutil
 import sys
 import tempfile
+from collections.abc import Iterator
+from typing import NoReturn
 
-from ...asking.program import Program, located
+from ...asking.translating import Translating, program_of
 from ...entry import Stop
 from ..checking import stop_at
 from ..cluster import POLICY
-from ..inputs import STDIN, Inputs
+from ..inputs import STDIN, Inputs, Thing
 from ..linting import Fault, faults
-from ..one_decision import named, policy_text
+from ..one_decision import add_programs, named, policy_text
 from ..positions import Marks
 from ..results import plural
 from ..statuses import GOOD, REFUSED, WORDS
-from ..wide_only import missing, wide_refusal
+from ..wide_linting import wide_faults
 
-MORE = """The image is the one that `celbpf compile` writes of the same policy in JSON; `celbpf list` and `celbpf debug` read it. If
-the policy is refused, all refusals are shown as `vapctl lint --profile` shows them, and no image is written."""
+MORE = """The image is the one that `celbpf compile` writes of the policy's translation, which `vapctl translate` prints; with
+--profile, of the policy itself. `celbpf list` and `celbpf debug` read it. If the policy is refused, all refusals are shown
+as `vapctl lint` shows them, and no image is written."""
 
 
 def words(parser: argparse.ArgumentParser) -> None:
@@ -27,7 +30,7 @@ def words(parser: argparse.ArgumentParser) -> None:
     parser.add_argument("policy", metavar="POLICY", help="a file, YAML or JSON, with the policy; - is standard input")
     parser.add_argument("-o", "--output", required=True, metavar="IMAGE", help="the file of the image; - is standard output")
     parser.add_argument("--name", metavar="NAME", help="the policy of this name, if POLICY has several")
-    parser.add_argument("--program", metavar="PROGRAM", help="the program celbpf to ask, if not the one that is installed")
+    add_programs(parser)
 
 
 def run(given: argparse.Namespace) -> int:
@@ -35,25 +38,32 @@ def run(given: argparse.Namespace) -> int:
     if not given.output:
         raise Stop("the image of -o has no name", WORDS)
     inputs = Inputs(keeps_texts=True)
-    things = inputs.things([given.policy])
-    stop_at(inputs.troubles)
-    policy = named([thing for thing in things if thing.kind == POLICY], given.name, POLICY, "--name")
+    policy = one_policy(inputs, given)
     with tempfile.TemporaryDirectory() as folder:
-        program = Program(located(given.program), folder)
+        program = program_of(given, folder)
         document = json.loads(policy_text(policy))
         if program.refusal(document):
-            if wide_refusal(document, given.program) == "":
-                raise Stop(missing(document, "`compile`", given.program), REFUSED)
-            return refused(list(faults(program, policy, Marks(inputs.texts[policy.place.file]))))
-        write(program.image(), given.output)
+            marks = Marks(inputs.texts[policy.place.file])
+            if isinstance(program, Translating):
+                refuse(wide_faults(program.gatekeeper, policy, marks))
+            refuse(faults(program, policy, marks))
+        write(program.compiled(document), given.output)
     return GOOD
 
 
-def refused(found: list[Fault]) -> int:
-    """Shows the refusals on standard error."""
+def one_policy(inputs: Inputs, given: argparse.Namespace) -> Thing:
+    """The policy of an input, which has to be read whole."""
+    things = inputs.things([given.policy])
+    stop_at(inputs.troubles)
+    return named([thing for thing in things if thing.kind == POLICY], given.name, POLICY, "--name")
+
+
+def refuse(shown: Iterator[Fault]) -> NoReturn:
+    """Shows refusals on standard error, and ends."""
+    found = list(shown)
     for fault in found:
         print(*fault.lines(), sep="\n", file=sys.stderr)
-    raise Stop(f"{plural(len(found), 'refusal')}, and no image is written", REFUSED)
+    raise Stop(f"{plural(len(found), 'refusal')}, and nothing is written", REFUSED)
 
 
 def write(image: str, to: str) -> None:

@@ -1,21 +1,26 @@
 """`vapctl debug`: the steps of a decision, in a session or in an editor."""
 
 import argparse
-import subprocess
-import sys
 import tempfile
 from pathlib import Path
+from typing import Iterable, Optional
 
-from ...asking.program import NotAnswered, Program, located
+from ...asking.program import NotAnswered, located
+from ...asking.translating import program_of
 from ...commands import dap
 from ...entry import Stop
+from ..inputs import STDIN
 from ..one_decision import Decision, add_words
 from ..refusals import words_of_refusal
-from ..statuses import GOOD, REFUSED, WORDS
-from ..wide_only import words_of_refused
+from ..session import run as run_session
+from ..statuses import REFUSED, WORDS
 
-MORE = """Without --dap it is a session of `celbpf debug` on the policy's program, on standard input and output: `c 1000000` goes to
-the end, `w` shows the verdict, `g 0` goes back to the start, `q` ends it. docs/DEBUGGER.md has all commands."""
+MORE = """Without --dap it is a session of `celbpf debug` on the program of the policy's translation, which `vapctl translate`
+prints, on standard input and output. On a terminal it has a prompt, and `help` lists the commands, which docs/DEBUGGER.md
+defines. POLICY may be an image too, as `celbpf asm`, `tools/asm` and `vapctl compile` write it: then no review is needed,
+and one that is given is an AdmissionReview in JSON."""
+# the begin of an image's file
+IMAGE = b"CELBPF0"
 
 
 def words(parser: argparse.ArgumentParser) -> None:
@@ -30,9 +35,19 @@ def run(given: argparse.Namespace) -> int:
     if given.dap:
         if given.policy:
             raise Stop("with --dap the editor names the files", WORDS)
-        return dap.serve(given.program)
+        return dap.serve(given)
+    if is_image(given.policy):
+        files = (("review", given.review), ("namespace", given.namespace_object), ("params", given.params))
+        for _, file in files:
+            if file:
+                # one that cannot be read ends the command
+                open(file, "rb").close()
+        return run_session(located(given.program), [given.policy, *beside(files)])
+    if given.policy not in (None, STDIN) and not given.review:
+        # a file that is not there is told first
+        Path(given.policy).stat()
     if not given.review:
-        raise Stop("a policy and a review are needed, or --dap", WORDS)
+        raise Stop("a policy and a review are needed, or an image, or --dap", WORDS)
     with tempfile.TemporaryDirectory() as folder:
         return session(given, Path(folder))
 
@@ -40,18 +55,23 @@ def run(given: argparse.Namespace) -> int:
 def session(given: argparse.Namespace, folder: Path) -> int:
     """A session on the program of a policy."""
     decision = Decision(given, folder)
-    program = Program(located(given.program), str(folder))
+    program = program_of(given, str(folder))
     try:
         image = program.kept_image(decision.files["policy"])
     except NotAnswered as why:
-        policy = str(decision.files["policy"])
-        raise Stop(words_of_refused(why.line, policy, "`debug`", given.program), REFUSED) from why
+        raise Stop(words_of_refusal(why.line), REFUSED) from why
     files = ((key, decision.files[key]) for key in ("review", "namespace", "params"))
-    beside = [word for key, file in files if file for word in (f"--{key}", file)]
-    if sys.stdin.isatty():
-        print("`c 1000000` goes to the end, `w` shows the verdict, `g 0` goes back, `q` ends", file=sys.stderr)
-    sys.stdout.flush()
-    ran = subprocess.run([str(program.path), "debug", image, *beside], stderr=subprocess.PIPE, encoding="utf-8", check=False)
-    if ran.returncode:
-        raise Stop(words_of_refusal(ran.stderr.removeprefix("celbpf: ").strip()), REFUSED)
-    return GOOD
+    return run_session(program.path, [image, *beside(files)])
+
+
+def is_image(name: Optional[str]) -> bool:
+    """Whether a file is an image."""
+    if not name or not Path(name).is_file():
+        return False
+    with open(name, "rb") as file:
+        return file.read(len(IMAGE)) == IMAGE
+
+
+def beside(files: Iterable[tuple[str, Optional[str]]]) -> list[str]:
+    """The words of `celbpf debug` for the documents that are given."""
+    return [word for key, file in files if file for word in (f"--{key}", file)]

@@ -6,12 +6,14 @@ import tempfile
 from collections.abc import Iterator
 from typing import Any, Callable
 
-from ...asking.program import Program, located, located_gatekeeper
-from ...asking.wide_places import Gatekeeper
+from ...asking.gatekeeper import Gatekeeper
+from ...asking.program import Program, located
+from ...asking.translating import gatekeeper_of
 from ...entry import Stop
 from ..cluster import POLICY
 from ..inputs import Inputs, Thing, Trouble
 from ..linting import Fault, faults
+from ..one_decision import add_programs
 from ..positions import Marks
 from ..reports.github import command
 from ..reports.texts import on_line
@@ -19,8 +21,8 @@ from ..results import plural
 from ..statuses import GOOD, REFUSED
 from ..wide_linting import wide_faults
 
-MORE = """Policies are judged as `vapctl check` and `gatekeeper` read them (docs/LANGUAGE.md), with --profile as `celbpf`, `vapctl
-why`, `debug` and `compile` do (docs/CEL.md). Each refusal has the line and the column in the file, the part of the policy,
+MORE = """Policies are judged as `vapctl` and `gatekeeper` read them (docs/LANGUAGE.md), with --profile as `celbpf` does
+(docs/CEL.md). Each refusal has the line and the column in the file, the part of the policy,
 what is meant, and its code, and mostly what to write instead. Refusals of the whole document, such as K3, are shown one
 at a time."""
 FORMS = ("table", "json", "github")
@@ -30,9 +32,7 @@ def words(parser: argparse.ArgumentParser) -> None:
     """The options of the command."""
     parser.add_argument("policies", nargs="+", metavar="P", help="files and folders of policies; - is standard input")
     parser.add_argument("-o", "--output", choices=FORMS, default="table", help="the form of the report (default: table)")
-    parser.add_argument("--profile", action="store_true", help="judge by the narrower language that `celbpf` compiles")
-    parser.add_argument("--gatekeeper", metavar="PROGRAM", help="the gatekeeper to ask, if not the one that is installed")
-    parser.add_argument("--program", metavar="PROGRAM", help="the program celbpf to ask, likewise, with --profile")
+    add_programs(parser)
 
 
 def asked(given: argparse.Namespace, folder: str) -> Callable[[Thing, Any], Iterator[Fault]]:
@@ -40,10 +40,7 @@ def asked(given: argparse.Namespace, folder: str) -> Callable[[Thing, Any], Iter
     if given.profile:
         program = Program(located(given.program), folder)
         return lambda policy, marks: faults(program, policy, marks)
-    found = located_gatekeeper(given.gatekeeper, given.program)
-    if found is None:
-        raise Stop("no gatekeeper is beside the program; --gatekeeper names one", REFUSED)
-    gatekeeper = Gatekeeper(found, folder)
+    gatekeeper = Gatekeeper(gatekeeper_of(given.gatekeeper, given.program), folder)
     return lambda policy, marks: wide_faults(gatekeeper, policy, marks)
 
 

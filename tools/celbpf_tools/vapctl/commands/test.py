@@ -5,6 +5,7 @@ import sys
 
 from ...commands import test
 from ...testing import output
+from ..one_decision import add_programs
 from ..statuses import BAD, GOOD, REFUSED
 
 MORE = """In a folder it takes the files tests.yaml, tests.yml and tests.json, also in subfolders. docs/SCRIPTS.md has the keys of
@@ -22,14 +23,13 @@ def form(text: str) -> tuple[str, str]:
 
 def words(parser: argparse.ArgumentParser) -> None:
     """The options of the command."""
-    parser.add_argument("places", nargs="+", metavar="TESTS", help="folders and test files")
+    parser.add_argument("places", nargs="+", metavar="TESTS", help="folders and test files; - is standard input")
     parser.add_argument("--coverage", action="store_true",
                         help="also tell which outcomes of conditions, validations and messages no case reaches")
     parser.add_argument("-o", "--output", action="append", type=form, default=[], metavar="FORM[=FILE]",
                         help=f"the form of the report, to standard output or to a file: {', '.join(FORMS)} (default: table on a "
                              "terminal, else tap); may be given several times")
-    parser.add_argument("--program", metavar="PROGRAM", help="the program celbpf to ask, if not the one that is installed")
-    parser.add_argument("--gatekeeper", metavar="PROGRAM", help="the gatekeeper to ask, if not the one that is installed")
+    add_programs(parser)
 
 
 def run(given: argparse.Namespace) -> int:

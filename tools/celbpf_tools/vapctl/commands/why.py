@@ -18,12 +18,12 @@ from ..reports.texts import on_line
 from ..requests import Asked, NoReview, Reviews, line_of
 from ..results import ALLOWED, DENIED
 from ..statuses import BAD, GOOD, REFUSED, WORDS
-from ..wide_only import words_of_refused
 
 MORE = """Of one policy it prints each part with its value, the parts of what is false with theirs, and what to change. The policy is
-asked whether or not its matchConstraints match. With --case the only argument is a test file, and the case has its
-policy and review. With --cluster or --policy the only argument is the review: it prints what each policy does under
-each of its bindings, and for those that do not match which rule or selector keeps the request out."""
+asked whether or not its matchConstraints match. Expressions are shown as their author wrote them; --translated also shows
+each as it is compiled. With --case the only argument is a test file, and the case has its policy and review. With --cluster
+or --policy the only argument is the review: it prints what each policy does under each of its bindings, and for those that
+do not match which rule or selector keeps the request out."""
 STATUSES = {ALLOWED: GOOD, DENIED: BAD}
 
 
@@ -32,12 +32,12 @@ def words(parser: argparse.ArgumentParser) -> None:
     add_words(parser)
     parser.add_argument("--case", metavar="NAME", help="the case of this name of the test file POLICY")
     parser.add_argument("--html", metavar="F", help="also write a page for a browser, which shows the run step by step")
+    parser.add_argument("--translated", action="store_true", help="also show each expression as it is compiled")
     group = parser.add_argument_group("a decision of all policies", "The only argument is then REVIEW.")
     group.add_argument("--cluster", action="append", default=[], metavar="STATE",
                        help="the policies of a saved state of a cluster; may be given several times")
     group.add_argument("--policy", action="append", default=[], dest="policies", metavar="P",
                        help="these policies, bound as by `vapctl check --policy`; may be given several times")
-    group.add_argument("--gatekeeper", metavar="PROGRAM", help="the gatekeeper to ask, if not the one that is installed")
 
 
 def refuse_words(given: argparse.Namespace) -> None:
@@ -47,8 +47,10 @@ def refuse_words(given: argparse.Namespace) -> None:
         raise Stop("with --cluster or --policy a review is the only argument", WORDS)
     if given.cluster and (given.policies or given.params):
         raise Stop("--cluster goes with neither --policy nor --params", WORDS)
-    if is_whole and (given.html or given.namespace_object):
-        raise Stop("--html and --namespace-object are for one policy", WORDS)
+    if is_whole and (given.html or given.namespace_object or given.translated or given.profile):
+        raise Stop("--html, --namespace-object, --translated and --profile are for one policy", WORDS)
+    if given.translated and given.profile:
+        raise Stop("with --profile nothing is translated", WORDS)
     if not is_whole and (given.case is None) == (given.review is None):
         raise Stop("a policy and a review are needed, or --case and a test file, or --cluster and a review", WORDS)
 
@@ -67,17 +69,12 @@ def run(given: argparse.Namespace) -> int:
 
 def of_one(given: argparse.Namespace, folder: Path) -> int:
     """The reason of a decision of one policy."""
-    one = asked(given, folder)
-    try:
-        return BAD if why.told(one) else GOOD
-    except NotAnswered as refused:
-        policy = why.of_case(one, folder).policy if given.case is not None else one.policy
-        raise Stop(words_of_refused(refused.line, policy, "`why`", given.program), REFUSED) from refused
+    return BAD if why.told(asked(given, folder)) else GOOD
 
 
 def asked(given: argparse.Namespace, folder: Path) -> argparse.Namespace:
     """The words of the script `why`, with the files of the decision."""
-    same = {"case": given.case, "html": given.html, "program": given.program}
+    same = {key: getattr(given, key) for key in ("case", "html", "program", "gatekeeper", "profile", "translated")}
     if given.case is not None:
         return argparse.Namespace(policy=given.policy, review=None, namespace=None, params=None, **same)
     decision = Decision(given, folder)

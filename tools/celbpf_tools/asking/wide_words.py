@@ -1,7 +1,8 @@
 """What the refusals of the language of clusters mean, and what to write instead."""
 
-from ..asking.wide_places import NAMESPACES, OF_OPTIONALS, Found, namespace_of
-from ..commands.place import MEANINGS
+from .refused import MEANINGS
+from .wide_places import OF_OPTIONALS, Found
+from .wide_splitter import NAMESPACES, namespace_of
 
 # names of types, which are no values here
 TYPES = ("int", "uint", "double", "string", "bool", "bytes", "null_type", "list", "map", "type")
@@ -17,19 +18,12 @@ LATER = {
     "replace": "", "trim": "", "charAt": "", "find": "", "findAll": "",
     "lowerAscii": "each spelling: `e in ['a', 'A']`",
     "upperAscii": "each spelling: `e in ['a', 'A']`",
-    "first": "`l[?0]`",
-    "last": "`size(l) > 0 ? l[size(l) - 1] : ..`",
-    "min": "`l.filter(x, l.all(y, x <= y))[0]`",
-    "max": "`l.filter(x, l.all(y, x >= y))[0]`",
     "sum": "", "isSorted": "", "distinct": "", "reverse": "", "slice": "", "flatten": "", "sort": "",
     "type": "",
     "int": "an int in the document", "double": "an int", "uint": "an int", "bytes": "a text",
     "quantity": "a choice of texts, such as `e in ['500m', '1']`",
     "isQuantity": "", "duration": "a choice of texts", "timestamp": "", "semver": "startsWith for a major version",
     "isSemver": "", "ip": "", "isIP": "", "cidr": "", "isCIDR": "", "url": "startsWith", "isURL": "startsWith",
-    "sets.contains": "`b.all(x, x in a)`",
-    "sets.intersects": "`a.exists(x, x in b)`",
-    "sets.equivalent": "`a.all(x, x in b) && b.all(x, x in a)`",
     "strings.quote": "", "lists.range": "the list itself, as `[0, 1, 2]`",
 }
 # what API servers up to 1.36 do not have
@@ -134,9 +128,12 @@ def form_told(found: Found) -> tuple[str, str]:
         return f"`{piece.word}` with two names is not supported yet", hint
     if piece.form == "index":
         return "an optional index is a text or an int of at least 0, written out", "`k in e ? e[k] : ..`"
-    if piece.form == "map":
-        return "entries with a question mark are not supported yet", "`has(e.f) ? {'a': e.f} : {}`"
     return MEANINGS["W5"], ""
 
 
-OF_CAUSES = {"W1": bytes_told, "W2": number_told, "W3": map_told, "W4": optional_told, "W5": name_told}
+def entry_told(found: Found, _: str) -> tuple[str, str]:
+    """Optional entries of a map."""
+    return "of a map at most three entries have a question mark, with keys that are texts, written out", "`has(e.f) ? {..} : {..}`"
+
+
+OF_CAUSES = {"W1": bytes_told, "W2": number_told, "W3": map_told, "W4": optional_told, "W5": name_told, "W6": entry_told}

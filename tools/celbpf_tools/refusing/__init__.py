@@ -1,0 +1,1 @@
+"""Runs of which one allocation is refused."""

@@ -1,0 +1,39 @@
+"""`vapctl translate`: a policy as it is compiled."""
+
+import argparse
+import json
+import tempfile
+
+from ...asking.gatekeeper import Gatekeeper
+from ...asking.translating import gatekeeper_of
+from ..inputs import Inputs
+from ..one_decision import policy_text
+from ..positions import Marks
+from ..statuses import GOOD
+from ..wide_linting import wide_faults
+from .compile import one_policy, refuse
+
+MORE = """It prints the policy of the profile (docs/CEL.md) that is compiled for a policy as clusters store them, as JSON, which
+`celbpf` reads. Its annotations have the text of each part as its author wrote it. If the policy is refused, all refusals
+are shown as `vapctl lint` shows them, and nothing is printed."""
+
+
+def words(parser: argparse.ArgumentParser) -> None:
+    """The options of the command."""
+    parser.add_argument("policy", metavar="POLICY", help="a file, YAML or JSON, with the policy; - is standard input")
+    parser.add_argument("--name", metavar="NAME", help="the policy of this name, if POLICY has several")
+    parser.add_argument("--program", metavar="PROGRAM", help="the program celbpf beside which the gatekeeper is")
+    parser.add_argument("--gatekeeper", metavar="PROGRAM", help="the gatekeeper to ask, if not the one that is installed")
+
+
+def run(given: argparse.Namespace) -> int:
+    """Prints the translation, or shows the refusals."""
+    inputs = Inputs(keeps_texts=True)
+    policy = one_policy(inputs, given)
+    with tempfile.TemporaryDirectory() as folder:
+        gatekeeper = Gatekeeper(gatekeeper_of(given.gatekeeper, given.program), folder)
+        document = json.loads(policy_text(policy))
+        if gatekeeper.refusal(document):
+            refuse(wide_faults(gatekeeper, policy, Marks(inputs.texts[policy.place.file])))
+        print(json.dumps(json.loads(gatekeeper.translation(document)), indent=2, ensure_ascii=False))
+    return GOOD
