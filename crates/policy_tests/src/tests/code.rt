@@ -2,4 +2,5 @@
 
 mod meanings;
 mod programs;
+mod refusals;
 mod running;

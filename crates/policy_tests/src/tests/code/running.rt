@@ -19,7 +19,7 @@ fn tree(alloc: Global, text: &str) -> Option<Expr> {
 }
 
 /// The text's expression.
-fn core(alloc: Global, text: &str) -> Option<Core> {
+pub(super) fn core(alloc: Global, text: &str) -> Option<Core> {
     expand(alloc, tree(alloc, text)?).ok()
 }
 
@@ -29,12 +29,17 @@ fn type_of(core: &Core, scope: &Scope) -> Option<CelType> {
 }
 
 /// The compiler's error for the expression, if any.
-fn refusal(alloc: Global, core: &Core, scope: &Scope, emitter: &mut Emitter) -> Option<CodeError> {
+pub(super) fn refusal(
+    alloc: Global,
+    core: &Core,
+    scope: &Scope,
+    emitter: &mut Emitter,
+) -> Option<CodeError> {
     expression(alloc, core, scope, emitter).err()
 }
 
 /// The compiler's error for the expression as a variable, if any.
-fn variable_refusal(
+pub(super) fn variable_refusal(
     alloc: Global,
     core: &Core,
     scope: &Scope,
