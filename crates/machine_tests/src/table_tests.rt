@@ -103,5 +103,9 @@ fn a_root_too_large(rt: HostRuntime) -> Result<(), Fail> {
         Table::of_roots(rt.alloc(), &roots).err(),
         Some(TableError::RootsTooLarge)
     );
+    assert_eq!(rt;
+        PlainTable::of_roots(rt.alloc(), &roots).err(),
+        Some(TableError::RootsTooLarge)
+    );
     Ok(())
 }

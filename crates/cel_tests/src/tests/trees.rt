@@ -1,7 +1,9 @@
 //! Trees of texts, worked out by hand, and texts at the limits.
 
 use super::{cells, repeated};
-use ReadError::{TextTooLong, TooManyOpen, UnexpectedToken};
+use ReadError::{
+    IntOutOfRange, InvalidTextLiteral, TextTooLong, TooManyOpen, UnexpectedToken, UnknownCharacter,
+};
 use cel_reader::{ReadError, read};
 use std::alloc::Global;
 use std::test::Fail;
@@ -46,8 +48,9 @@ a in b¦Binary(In, Name("a"), Name("b"))
 a ? b : c ? d : e¦Ternary(Name("a"), Name("b"), Ternary(Name("c"), Name("d"), Name("e")))
 (a ? b : c) ? d : e¦Ternary(Ternary(Name("a"), Name("b"), Name("c")), Name("d"), Name("e"))"#;
 
-/// Texts at the limits and beyond them: a unit, how often it is repeated, the text after it, and the error.
-const LIMITS: [(&str, usize, &str, Option<ReadError>); 14] = [
+/// Texts at the limits and beyond them, and texts without tokens: a unit, how often it is repeated, the text after it,
+/// and the error.
+const LIMITS: [(&str, usize, &str, Option<ReadError>); 17] = [
     ("(", 101, "", Some(TooManyOpen(100))),
     ("[", 101, "", Some(TooManyOpen(100))),
     ("{1:", 101, "", Some(TooManyOpen(300))),
@@ -62,6 +65,9 @@ const LIMITS: [(&str, usize, &str, Option<ReadError>); 14] = [
     ("(", 4_096, "", Some(TooManyOpen(100))),
     ("!", 4_095, "true", None),
     (" ", 65_537, "", Some(TextTooLong(65_536))),
+    ("(", 2, "#", Some(UnknownCharacter(2))),
+    ("(", 3, "'a", Some(InvalidTextLiteral(3))),
+    ("9", 19, "", Some(IntOutOfRange(0))),
 ];
 
 /// The tree of the text as a debug text.
