@@ -188,6 +188,6 @@ pub record TellingRowsHold : Type 0 where
   pub blocked : block_text (Some (Refused (Unread NotJson))) ≡ codes ", blocked C7 K1"
   pub blocked_by_a_name : block_text (Some NamesNamespace) ≡ codes ", blocked C7 namespaceObject"
   pub blocked_by_its_kind : block_text (Some UnknownParamKind) ≡ codes ", blocked C8"
-  pub line : policy_line lists bound with_params None ≡ codes "celbpf: policy p, bindings a c, params v1 ConfigMap 2\n"
+  pub line : policy_line lists bound with_params None ≡ codes "gatekeeper: policy p, bindings a c, params v1 ConfigMap 2\n"
   pub line_of_a_blocked_policy : policy_line lists bound (record with_params { param_kind = None }) (Some NamesNamespace)
-      ≡ codes "celbpf: policy p, bindings a c, blocked C7 namespaceObject\n"
+      ≡ codes "gatekeeper: policy p, bindings a c, blocked C7 namespaceObject\n"

@@ -61,7 +61,7 @@ fn policy_line<'a>(
         → t.items ≡ policy_line (map view listed.now.lists.now) s p (cause_of gate.now.standing)) }
 {
     let policy = gate.asked.policy;
-    let mut line = Vec::from_slice(alloc, b"celbpf: policy ")?;
+    let mut line = Vec::from_slice(alloc, b"gatekeeper: policy ")?;
     line.extend_from_slice(policy.name.as_bytes())?;
     line.extend_from_slice(b", bindings")?;
     let bindings = state.bindings_of(alloc, policy.name)?;
@@ -147,7 +147,7 @@ pub fn add_notes(text: &mut Vec<u8>, name: &str, notes: &[LeftOut]) -> Result<()
 fn add_note(text: &mut Vec<u8>, name: &str, note: &LeftOut) -> Result<(), AllocError>
     ensures { OnOk result (text.new.items ≡ text.old.items ++ note_line name.now note.now) }
 {
-    text.extend_from_slice(b"celbpf: policy ")?;
+    text.extend_from_slice(b"gatekeeper: policy ")?;
     text.extend_from_slice(name.as_bytes())?;
     text.extend_from_slice(b", left out message ")?;
     add_number(text, note.validation)?;

@@ -335,7 +335,7 @@ class States(unittest.TestCase):
         matches = policy("q", validations=[{"expression": "'a'.matches('a')"}], paramKind=LIMITS)
         items = [PROD, LIMITS_X, matches, binding("c", "q"), binding("b", "q"), policy(), binding("a"), policy("unbound")]
         self.assertEqual(starting.policy_lines(state.opened([list_text(items)], True)), [
-            "celbpf: policy p, bindings a", "celbpf: policy q, bindings b c, params v1 ConfigMap 1, blocked C7 K6 validation 0 Y2"])
+            "gatekeeper: policy p, bindings a", "gatekeeper: policy q, bindings b c, params v1 ConfigMap 1, blocked C7 K6 validation 0 Y2"])
 
     def test_scope_of_a_kind(self) -> None:
         kind = ("v1", "ConfigMap")

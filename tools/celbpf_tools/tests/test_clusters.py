@@ -53,7 +53,7 @@ class Compared(unittest.TestCase):
         wanted = due(self.CASE)
         self.assertEqual(wanted, Answers([ALLOWED]))
         self.assertIsNone(difference(self.CASE, wanted, ran(0, f"{ALLOWED}\n")))
-        self.assertIsNotNone(difference(self.CASE, wanted, ran(0, f"{ALLOWED}\n", "celbpf: policy p, bindings b\n")))
+        self.assertIsNotNone(difference(self.CASE, wanted, ran(0, f"{ALLOWED}\n", "gatekeeper: policy p, bindings b\n")))
         for status, said in [(0, "{}\n"), (0, ""), (0, ALLOWED), (0, f"{ALLOWED}\n\n"), (1, f"{ALLOWED}\n")]:
             with self.subTest(said):
                 self.assertIsNotNone(difference(self.CASE, wanted, ran(status, said)))

@@ -19,7 +19,7 @@ from .results import ALLOWED, AUDIT, DENIED, DENY, ERROR, UNDECIDED, WARN, Findi
 
 WARNING = re.compile(r"Validation failed for ValidatingAdmissionPolicy '(.*?)' with binding '(.*?)': (.*)", re.DOTALL)
 DENIAL = re.compile(r"is forbidden: ValidatingAdmissionPolicy '(.*?)'(?: with binding '(.*?)')? denied request: (.*)", re.DOTALL)
-LISTED = re.compile(r"celbpf: policy (\S+), bindings.*?(?:, blocked (.*))?$")
+LISTED = re.compile(r"gatekeeper: policy (\S+), bindings.*?(?:, blocked (.*))?$")
 WARNS = ["Warn"]
 # by the place of a review what is found, and the review with what is found so far
 Found = dict[int, list[Finding]]

@@ -27,7 +27,7 @@ const THREE_ANSWERS: &str =
 /// The words, the status, standard output and standard error, on the lines above.
 #[rattlefmt::skip]
 const ROWS: [(&str, u8, &str, &str); 34] = [
-    (BOTH, 0, THREE_ANSWERS, "celbpf: policy p, bindings b\ncelbpf: policy q, bindings c\n"),
+    (BOTH, 0, THREE_ANSWERS, "gatekeeper: policy p, bindings b\ngatekeeper: policy q, bindings c\n"),
     ("gatekeeper --cluster policies", 0, NOTHING_BOUND, ""),
     ("gatekeeper --cluster none", 3, "", "celbpf: C1 none\n"),
     ("gatekeeper --cluster policies --cluster namespace", 3, "", "celbpf: C1 namespace\n"),
@@ -38,11 +38,11 @@ const ROWS: [(&str, u8, &str, &str); 34] = [
     ("gatekeeper --cluster no-binding", 3, "", "celbpf: C5 b\n"),
     ("gatekeeper --cluster no-constraints", 3, "", "celbpf: C6 p\n"),
     ("gatekeeper --cluster no-validations", 3, "", "celbpf: C7 p K4\n"),
-    ("gatekeeper --cluster condition", 0, CONDITION_ANSWERS, "celbpf: policy p, bindings b\n"),
+    ("gatekeeper --cluster condition", 0, CONDITION_ANSWERS, "gatekeeper: policy p, bindings b\n"),
     ("gatekeeper --cluster condition --profile", 3, "", "celbpf: C7 p namespaceObject\n"),
     ("gatekeeper --cluster no-kind", 3, "", "celbpf: C8 p\n"),
-    ("gatekeeper --cluster no-validations --partial", 0, C7_REFUSED, "celbpf: policy p, bindings b, blocked C7 K4\n"),
-    ("gatekeeper --partial --cluster no-kind", 0, C8_REFUSED, "celbpf: policy p, bindings b, params example.com/v1 Limit 0, blocked C8\n"),
+    ("gatekeeper --cluster no-validations --partial", 0, C7_REFUSED, "gatekeeper: policy p, bindings b, blocked C7 K4\n"),
+    ("gatekeeper --partial --cluster no-kind", 0, C8_REFUSED, "gatekeeper: policy p, bindings b, params example.com/v1 Limit 0, blocked C8\n"),
     ("gatekeeper --cluster policies --cluster bindings --verbose", 0, THREE_ANSWERS, THREE_TOLD),
     ("gatekeeper --cluster no-validations --partial --verbose", 0, C7_REFUSED, C7_TOLD),
     ("gatekeeper --cluster no-validations --partial --verbose --status", 1, C7_REFUSED, C7_TOLD),
@@ -54,10 +54,10 @@ const ROWS: [(&str, u8, &str, &str); 34] = [
     ("gatekeeper --policy few --partial", 2, "", "celbpf: U1\n"),
     ("gatekeeper --partial", 2, "", "celbpf: U1\n"),
     ("gatekeeper --cluster", 2, "", "celbpf: U1\n"),
-    ("gatekeeper --cluster policies --cluster bindings --profile", 0, THREE_ANSWERS, "celbpf: policy p, bindings b\ncelbpf: policy q, bindings c\n"),
+    ("gatekeeper --cluster policies --cluster bindings --profile", 0, THREE_ANSWERS, "gatekeeper: policy p, bindings b\ngatekeeper: policy q, bindings c\n"),
     ("gatekeeper --cluster wide", 3, "", "celbpf: C7 p K6 message 1 W5 url\n"),
     ("gatekeeper --cluster wide --leave-messages", 0, WIDE_ANSWERS, WIDE_TOLD),
-    ("gatekeeper --cluster wide --partial", 0, C7_REFUSED, "celbpf: policy p, bindings b, blocked C7 K6 message 1 W5 url\n"),
+    ("gatekeeper --cluster wide --partial", 0, C7_REFUSED, "gatekeeper: policy p, bindings b, blocked C7 K6 message 1 W5 url\n"),
     ("gatekeeper --cluster wide --profile", 3, "", "celbpf: C7 p K6 validation 0 P4 at 7\n"),
     ("gatekeeper --cluster no-validations --leave-messages", 3, "", "celbpf: C7 p K4\n"),
     ("gatekeeper --cluster wide --leave-messages --profile", 2, "", "celbpf: U1\n"),
@@ -70,8 +70,8 @@ const WIDE_ANSWERS: &str =
 {"refused":"N2","uid":"u3"}
 "#;
 
-const WIDE_TOLD: &str = r#"celbpf: policy p, bindings b
-celbpf: policy p, left out message 1 W5 url
+const WIDE_TOLD: &str = r#"gatekeeper: policy p, bindings b
+gatekeeper: policy p, left out message 1 W5 url
 "#;
 
 /// The answers of `condition`, which denies if a match condition has no namespace.
@@ -95,12 +95,12 @@ const C7_REFUSED: &str = r#"{"policy":"p","refused":"C7","uid":"u1"}
 "#;
 
 /// Standard error with `--verbose`: first the lines on the policies, then the refused lines.
-const THREE_TOLD: &str = r#"celbpf: policy p, bindings b
-celbpf: policy q, bindings c
+const THREE_TOLD: &str = r#"gatekeeper: policy p, bindings b
+gatekeeper: policy q, bindings c
 celbpf: line 3: {"refused":"N2","uid":"u3"}
 "#;
 
-const C7_TOLD: &str = r#"celbpf: policy p, bindings b, blocked C7 K4
+const C7_TOLD: &str = r#"gatekeeper: policy p, bindings b, blocked C7 K4
 celbpf: line 1: {"policy":"p","refused":"C7","uid":"u1"}
 celbpf: line 2: {"policy":"p","refused":"C7","uid":"u2"}
 celbpf: line 3: {"refused":"N2","uid":"u3"}

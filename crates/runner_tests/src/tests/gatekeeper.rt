@@ -109,7 +109,7 @@ no
 
 /// The words, the input, the status, standard output and the refusal.
 #[rattlefmt::skip]
-const ROWS: [(&str, &str, u8, &str, &str); 64] = [
+const ROWS: [(&str, &str, u8, &str, &str); 63] = [
     (FEW, TWO, 0, TWO_ANSWERS, ""),
     (
         FEW,
@@ -189,7 +189,6 @@ const ROWS: [(&str, &str, u8, &str, &str); 64] = [
     ("gatekeeper --translate few", TWO, 0, FEW_TRANSLATED, ""),
     ("gatekeeper --translate=optional", TWO, 0, OPTIONAL_TRANSLATED, ""),
     ("gatekeeper --leave-messages --translate optional", TWO, 0, OPTIONAL_TRANSLATED, ""),
-    ("gatekeeper --translate untold --leave-messages", TWO, 0, UNTOLD_TRANSLATED, "policy untold, left out message 0 W5 url"),
     ("gatekeeper --translate untold", TWO, 3, "", "K6 message 0 W5 url"),
     ("gatekeeper --policy untold", TWO, 3, "", "K6 message 0 W5 url"),
     ("gatekeeper --translate unknown", TWO, 3, "", "K6 validation 1 W5 url"),
@@ -306,5 +305,22 @@ fn ends_where_a_translation_is_not_written(rt: HostRuntime) -> Result<(), Fail> 
             "room for {room}"
         );
     }
+    Ok(())
+}
+
+#[test]
+fn names_what_a_translation_leaves_out(rt: HostRuntime) -> Result<(), Fail> {
+    let mut input = Buffered::<_, 64>::new(Counting::new(TWO.as_bytes()));
+    let told = "gatekeeper: policy untold, left out message 0 W5 url\n";
+    let due = (0, UNTOLD_TRANSLATED.as_bytes(), told);
+    assert!(rt;
+        ends(
+            rt.alloc(),
+            "gatekeeper --translate untold --leave-messages",
+            &mut input,
+            1024,
+            due
+        )?
+    );
     Ok(())
 }
