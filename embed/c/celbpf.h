@@ -98,7 +98,7 @@ uint32_t celbpf_gate_new(celbpf_gate *place, const uint8_t *policy, size_t polic
 /*
  * Compiles a policy as clusters store it and puts its gate into the place, as celbpf_gate_new does. Its calls decide as the
  * program gatekeeper does, and messages have the texts of the policy's author.
- * As celbpf_gate_new; the line is that of the program gatekeeper, as "celbpf: K6 validation 1 W5 url\n".
+ * As celbpf_gate_new; the line is that of the program gatekeeper without a file, as "celbpf: K6 validation 1 W5 url\n".
  */
 uint32_t celbpf_gate_new_wide(celbpf_gate *place, const uint8_t *policy, size_t policy_len, uint8_t *room, size_t room_len,
                               size_t *len);

@@ -15,6 +15,7 @@ use Rattle.admission.specs.declared.language.Language.TheVariants.{Profile}
 use Rattle.admission.specs.declared.policy_refusal.PolicyRefusal.TheVariants.{Unread}
 use Rattle.admission.specs.declared.run_error.RunError.{RunError}
 use Rattle.admission.specs.declared.run_error.RunError.TheVariants as run_error
+use Rattle.admission.specs.declared.wide_refusal.WideRefusal.TheVariants as wide_refusal
 use Rattle.admission_documents.specs.Matching.{match_all}
 use Rattle.cluster_state.specs.Bindings.{Binding}
 use Rattle.cluster_state.specs.Objects.{no_objects}
@@ -25,14 +26,18 @@ use Rattle.cluster_state.specs.declared.action.Action.TheVariants.{Deny}
 use Rattle.cluster_state.specs.declared.state_error.StateError.TheVariants.{NotAList, InvalidItem, DuplicateItem}
 use Rattle.cluster_state.specs.declared.state_error.StateError.TheVariants.{NoNamespace, InvalidBinding}
 use Rattle.cluster_state.specs.declared.state_error.StateError.TheVariants.{InvalidPolicy, Memory}
+use Rattle.wide_policy.specs.declared.wide_policy_error.WidePolicyError.TheVariants.{HasAuditAnnotations}
 use Rattle.cluster_gate.specs.declared.block_cause.BlockCause.TheVariants.{Refused, NamesNamespace, UnknownParamKind}
 use Rattle.gatekeeper_runner.specs.ClusterEnding.{ending_of}
 use Rattle.gatekeeper_runner.specs.ClusterLines.{decision_text}
 use Rattle.gatekeeper_runner.specs.ClusterStarting.{cause_code, cause_text, code_and_name, fault_line, fault_text, state_text}
 use Rattle.gatekeeper_runner.specs.ClusterTelling.{block_text, params_text, policy_line}
+use Rattle.gatekeeper_runner.specs.FileFaults.{file_text}
 use Rattle.gatekeeper_runner.specs.Lines.{answer_text, refusal_text, too_long_text, uid_shown}
 use Rattle.gatekeeper_runner.specs.Together.{PolicyResult, Refused as RefusedReview, and_also, joined, rejections, told_refusal}
-use Rattle.gatekeeper_runner.specs.declared.cluster_fault.ClusterFault.TheVariants.{NoList, NoState, Blocked}
+use Rattle.gatekeeper_runner.specs.declared.cluster_fault.ClusterFault.TheVariants.{NoList, NoState, Blocked, InFile}
+use Rattle.gatekeeper_runner.specs.declared.file_fault.FileFault.{FileFault}
+use Rattle.gatekeeper_runner.specs.declared.file_fault.FileFault.TheVariants as file_fault
 
 -- ---- lines
 
@@ -142,6 +147,11 @@ pub record FaultLineRowsHold : Type 0 where
   pub code_of_a_refused_policy : cause_code (Refused (Unread NotJson)) ≡ codes "C7"
   pub code_of_a_name : cause_code NamesNamespace ≡ codes "C7"
   pub code_of_a_kind : cause_code UnknownParamKind ≡ codes "C8"
+  pub unread_file : file_text (codes "p.json") file_fault.Unread ≡ codes "p.json: file"
+  pub refused_file : file_text (codes "p.json") (file_fault.Refused (Unread NotJson)) ≡ codes "p.json: K1"
+  pub refused_wide_file : file_text (codes "p.json") (file_fault.RefusedWide (wide_refusal.Unread HasAuditAnnotations))
+      ≡ codes "p.json: K3 auditAnnotations"
+  pub no_memory_for_a_file : file_text (codes "p.json") file_fault.Memory ≡ codes "memory"
 
 -- the texts with a name, for every name
 pub record FaultNameRowsHold : Type 0 where
@@ -152,6 +162,7 @@ pub record FaultNameRowsHold : Type 0 where
   pub no_kind : (name : String Global) → fault_text (Blocked name UnknownParamKind) ≡ (codes "C8 " ++ string_bytes name) ++ []
   pub named : (name : String Global) → fault_text (Blocked name NamesNamespace)
       ≡ (codes "C7 " ++ string_bytes name) ++ codes " namespaceObject"
+  pub in_file : (name : String Global) (fault : FileFault) → fault_text (InFile name fault) ≡ file_text (string_bytes name) fault
 
 -- two lists: two maps of configuration, and objects of another kind, of another version, and of neither
 abbrev pub listed : Option json.Data → Option json.Data → List json.Data

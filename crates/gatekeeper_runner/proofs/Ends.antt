@@ -11,7 +11,7 @@ use Rattle.gatekeeper_runner.specs.ClusterEnding.{TellsCluster}
 use Rattle.gatekeeper_runner.specs.ClusterLines.{OpensKeeper}
 use Rattle.gatekeeper_runner.specs.ClusterStarting.{ClusterStarts, HoldLists, IsNotListed, is_blocked, no_memory, no_state, not_listed, ready, refusal_of_state}
 use Rattle.gatekeeper_runner.specs.Orders.{ClusterOrder}
-use Rattle.gatekeeper_runner.specs.declared.cluster_fault.ClusterFault.TheVariants.{NoList, NoState, Blocked, Untaken}
+use Rattle.gatekeeper_runner.specs.declared.cluster_fault.ClusterFault.TheVariants.{NoList, NoState, Blocked, InFile}
 use Rattle.gatekeeper_runner.specs.declared.cluster_keeper.ClusterKeeper.{ClusterKeeper}
 use Rattle.gatekeeper_runner.specs.declared.start_refusal.StartRefusal.TheVariants.{Plain, Cluster}
 
@@ -28,7 +28,7 @@ module _ (known : Option FileSystem) (order : ClusterOrder) (lists : List json.D
   not_listed_at place (Cluster (NoList name)) due told = not_listed place name hold due told
   not_listed_at place (Cluster (NoState e)) due told = absurd told
   not_listed_at place (Cluster (Blocked name cause)) due told = absurd told
-  not_listed_at place (Cluster (Untaken e)) due told = absurd told
+  not_listed_at place (Cluster (InFile name fault)) due told = absurd told
 
   -- the lists are not the state of a cluster, though each is a List
   pub refused_state : (e : StateError) → ((place : ℕ) → e ≢ state_error.NotAList place) → IsDueRefusal (state_of lists) e
@@ -48,7 +48,7 @@ module _ (known : Option FileSystem) (order : ClusterOrder) (lists : List json.D
     not_opened (Cluster (Blocked name cause)) opens = is_blocked name cause hold is opens.0 opens.1
     not_opened (Cluster (NoList name)) opens = absurd opens
     not_opened (Cluster (NoState e)) opens = absurd opens
-    not_opened (Cluster (Untaken e)) opens = absurd opens
+    not_opened (Cluster (InFile name fault)) opens = absurd opens
 
     pub opened : (k : ClusterKeeper) → OpensKeeper lists order s (Ok k)
         → ClusterStarts known order (Ok (record { lists = lists; language = order.language; state = s; limits = order.limits; max_line = order.max_line }))

@@ -1,5 +1,5 @@
 -- The policies are opened one after the other.
-use Rattle.gatekeeper_runner.proofs.Prelude.{◌≡◌, ℕ, suc, ◌+◌, ◌<◌, List, [], ◌∷◌, ◌++◌, drop, length, map, take, Option, Ok, Err, String, string_bytes, sym, ap, ◌∙◌, get_or, Global, map-append, take_more, split_at, Text, CompilesDocument, IsPolicy, FileSystem, IsReading, policy_refusal_of, PolicyRefusal, IsUnopened, OneUnopened, Opens, refl, refused, AreGates, IsGateOf, NamedGate, PolicyFile}
+use Rattle.gatekeeper_runner.proofs.Prelude.{◌≡◌, ℕ, suc, ◌+◌, ◌<◌, List, [], ◌∷◌, ◌++◌, drop, length, map, take, Option, Ok, Err, String, string_bytes, sym, ap, ◌∙◌, get_or, Global, map-append, take_more, split_at, Text, CompilesDocument, IsPolicy, FileSystem, IsReading, PolicyRefusal, IsUnopened, OneUnopened, Opens, refl, refused, AreGates, IsGateOf, NamedGate, PolicyFile}
 use Rattle.wide_policy.specs.declared.message_rule.MessageRule.{MessageRule}
 use Rattle.admission.specs.Deciding.{OpensWideGate}
 use Rattle.admission.specs.declared.language.Language.{Language, TheVariants.Profile, TheVariants.Wide}
@@ -7,17 +7,17 @@ use Rattle.admission.specs.declared.policy_refusal.PolicyRefusal.TheVariants.{Un
 use Rattle.admission.specs.declared.policy_refusal.PolicyRefusal.TheVariants as policy_refusal
 use Rattle.admission.specs.declared.wide_refusal.WideRefusal.{WideRefusal}
 use Rattle.admission.specs.declared.wide_refusal.WideRefusal.TheVariants as wide_refusal
-use Rattle.gatekeeper_runner.specs.ClusterStarting.{refusal_of_wide}
+use Rattle.gatekeeper_runner.specs.FileFaults.{fault_of_policy, fault_of_wide}
 use Rattle.gatekeeper_runner.specs.Starting.{OpensIn, OpensNamed, next, no_memory, refused_wide}
-use Rattle.gatekeeper_runner.specs.declared.start_refusal.StartRefusal.{StartRefusal, TheVariants.Plain}
+use Rattle.gatekeeper_runner.specs.declared.start_refusal.StartRefusal.{StartRefusal}
 
 -- why a policy that was read gives no gate
-pub unopened_by : (document : List ℕ) (e : PolicyRefusal) → CompilesDocument document (Err e) → OpensIn Profile document (Err (Plain (policy_refusal_of e)))
+pub unopened_by : (document : List ℕ) (e : PolicyRefusal) → CompilesDocument document (Err e) → OpensIn Profile document (Err (fault_of_policy e))
 unopened_by document policy_refusal.Memory why = λ known name reading. no_memory
 unopened_by document (Unread e) why = λ known name reading. refused refl reading why
 unopened_by document (Uncompiled e) why = λ known name reading. refused refl reading why
 
-pub untaken_by : (rule : MessageRule) (document : List ℕ) (e : WideRefusal) → OpensWideGate rule document (Err e) → OpensIn (Wide rule) document (Err (refusal_of_wide e))
+pub untaken_by : (rule : MessageRule) (document : List ℕ) (e : WideRefusal) → OpensWideGate rule document (Err e) → OpensIn (Wide rule) document (Err (fault_of_wide e))
 untaken_by rule document wide_refusal.Memory why = λ known name reading. no_memory
 untaken_by rule document (wide_refusal.Unread e) why = λ known name reading. refused_wide refl reading why
 untaken_by rule document (wide_refusal.Uncompiled e) why = λ known name reading. refused_wide refl reading why

@@ -23,7 +23,6 @@ pub use Rattle.admission.proofs.Standing.{of_one}
 pub use Rattle.admission.specs.Deciding.{Reply, CompilesDocument, Documents, IsPolicy, answer_of, decision}
 pub use Rattle.host.specs.FileSystem.{FileSystem, IsReading}
 pub use Rattle.admission.specs.OneAnswer.{ReviewHasOneResult, IsAnswerTo}
-pub use Rattle.cli.specs.Refusals.{policy_refusal_of}
 pub use Rattle.admission.specs.Decisions.{IsDecisionOf, Decision, DecidesReview, decision_from_verdict}
 pub use Rattle.admission.specs.Standing.{RunAgrees}
 pub use Rattle.host.specs.declared.order_error.OrderError.{OrderError}

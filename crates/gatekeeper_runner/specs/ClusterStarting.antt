@@ -6,8 +6,7 @@ use Rattle.serde_json.specs.View.{view}
 use Rattle.serde_json.specs.declared.value.Value.{Value}
 use Rattle.clap.specs.Words.{Text}
 use Rattle.host.specs.FileSystem.{FileSystem, IsReading}
-use Rattle.host.specs.declared.file_error.FileError.{FileError}
-use Rattle.cli.specs.Refusals.{file_refusal, policy_text}
+use Rattle.cli.specs.Refusals.{policy_text}
 use Rattle.cli.specs.WideTexts.{wide_text}
 use Rattle.cli.specs.declared.refusal.Refusal.TheVariants.{Memory}
 use Rattle.value_store.specs.Documents.{document_of}
@@ -24,10 +23,9 @@ use Rattle.cluster_gate.specs.declared.cluster_error.ClusterError.{ClusterError,
 use Rattle.cluster_gate.specs.declared.cluster_error.ClusterError.TheVariants as cluster_error
 use Rattle.admission.specs.declared.language.Language.{Language}
 use Rattle.admission.specs.declared.limits.Limits.{Limits}
-use Rattle.admission.specs.declared.wide_refusal.WideRefusal.{WideRefusal}
-use Rattle.admission.specs.declared.wide_refusal.WideRefusal.TheVariants as wide_refusal
+use Rattle.gatekeeper_runner.specs.FileFaults.{IsUnread, file_text}
 use Rattle.gatekeeper_runner.specs.Orders.{ClusterOrder}
-use Rattle.gatekeeper_runner.specs.declared.cluster_fault.ClusterFault.{ClusterFault, TheVariants.NoList, TheVariants.NoState, TheVariants.Blocked, TheVariants.Untaken}
+use Rattle.gatekeeper_runner.specs.declared.cluster_fault.ClusterFault.{ClusterFault, TheVariants.NoList, TheVariants.NoState, TheVariants.Blocked, TheVariants.InFile}
 use Rattle.gatekeeper_runner.specs.declared.start_refusal.StartRefusal.{StartRefusal, TheVariants.Plain, TheVariants.Cluster}
 
 -- what every line is answered under: the lists and the state in them, the language of its policies, the limits of each
@@ -49,7 +47,7 @@ pub data HoldLists (known : Option FileSystem) : List Text → List json.Data �
 
 -- why a file gives no document: it is not read, or is not JSON
 pub data IsNoList (known : Option FileSystem) (name : Text) : StartRefusal → Type 0 where
-  unread : (e : FileError) → IsReading known name (Err e) → IsNoList known name (Plain (file_refusal e))
+  unread : {r : StartRefusal} → IsUnread known name r → IsNoList known name r
   no_json : {text : List ℕ} (told : String Global) → IsReading known name (Ok text) → document_of text ≡ None → string_bytes told ≡ name
       → IsNoList known name (Cluster (NoList told))
   no_memory : IsNoList known name (Plain Memory)
@@ -126,7 +124,7 @@ code_and_name code name = code ++ (codes " " ++ name)
 abbrev pub fault_text : ClusterFault → List ℕ
 fault_text (NoList name) = code_and_name (codes "C1") (string_bytes name)
 fault_text (NoState e) = state_text e
-fault_text (Untaken e) = wide_text e
+fault_text (InFile name fault) = file_text (string_bytes name) fault
 fault_text (Blocked name cause) = code_and_name (cause_code cause) (string_bytes name) ++ cause_text cause
 
 -- the line of standard error on a fault
@@ -139,11 +137,6 @@ fault_line fault = codes "celbpf: " ++ (fault_text fault ++ 10 ∷ [])
 abbrev pub refusal_of_state : StateError → StartRefusal
 refusal_of_state state_error.Memory = Plain Memory
 refusal_of_state e = Cluster (NoState e)
-
--- the refusal of a policy in the wide language; out of memory likewise
-abbrev pub refusal_of_wide : WideRefusal → StartRefusal
-refusal_of_wide wide_refusal.Memory = Plain Memory
-refusal_of_wide e = Cluster (Untaken e)
 
 -- the refusal of a cluster with a blocked policy; out of memory likewise
 abbrev pub refusal_of_cluster : ClusterError → StartRefusal

@@ -7,6 +7,7 @@ pub mod Lines
 pub mod RefusalTokens
 pub mod AnsweredLines
 pub mod Orders
+pub mod FileFaults
 pub mod Starting
 pub mod About
 pub mod ClusterStarting

@@ -76,7 +76,7 @@ pub data TranslationEnds (known : Option FileSystem) (order : TranslationOrder) 
 pub data GatekeeperResult (chosen : Images) (given : Given) (old new : System) (errors errors_after : Stream) (status : ℕ) : Type 0 where
   under_policies : ProgramEnds (GatekeeperEffect chosen given old new) errors errors_after status
       → GatekeeperResult chosen given old new errors errors_after status
-  -- a policy in the wide language is refused
+  -- a file is not read, or the policy in one is refused
   not_taken : {order : GatekeeperOrder} {fault : ClusterFault} → text_asked given ≡ None → AsksGatekeeper given (by_policies order)
       → GatekeeperStarts old.files order (Err (Cluster fault)) → new ≡ old → TellsStart errors errors_after status (Cluster fault)
       → GatekeeperResult chosen given old new errors errors_after status

@@ -10,12 +10,12 @@ use Rattle.admission.specs.declared.wide_refusal.WideRefusal.{WideRefusal}
 use Rattle.policy_glue.specs.OneImage.{OneImage}
 use Rattle.wide_policy.specs.declared.message_rule.MessageRule.{MessageRule}
 use Rattle.host.specs.FileSystem.{FileSystem, IsReading}
-use Rattle.cli.specs.Refusals.{file_refusal}
 use Rattle.host.specs.declared.file_error.FileError.{FileError}
 use Rattle.admission.specs.declared.policy_refusal.PolicyRefusal.{PolicyRefusal}
-use Rattle.cli.specs.declared.refusal.Refusal.TheVariants.{Memory, Policy}
-use Rattle.gatekeeper_runner.specs.declared.cluster_fault.ClusterFault.TheVariants.{Untaken}
-use Rattle.gatekeeper_runner.specs.declared.start_refusal.StartRefusal.{StartRefusal, TheVariants.Plain, TheVariants.Cluster}
+use Rattle.gatekeeper_runner.specs.FileFaults.{IsRefusalOf, IsUnreadGiven, fault_of_file}
+use Rattle.gatekeeper_runner.specs.declared.file_fault.FileFault.{FileFault, TheVariants.Refused, TheVariants.RefusedWide}
+use Rattle.gatekeeper_runner.specs.declared.file_fault.FileFault.TheVariants as file_fault
+use Rattle.gatekeeper_runner.specs.declared.start_refusal.StartRefusal.{StartRefusal}
 use Rattle.gatekeeper_runner.specs.Orders.{GatekeeperOrder}
 use Rattle.gatekeeper_runner.specs.Together.{AreGates, IsGateOf, Gatekeeper, PolicyFile, gatekeeper_of}
 use Rattle.gatekeeper_runner.specs.declared.gatekeeper.Gatekeeper.{Gatekeeper as CodeGatekeeper}
@@ -28,15 +28,21 @@ pub data Opens (known : Option FileSystem) (language : Language) : List Text →
       → IsReading known name (Ok document) → IsPolicy language document
       → Opens known language (names ++ name ∷ []) (policies ++ record { file = name; language = language; document = document } ∷ [])
 
--- why a policy's file gives no policy of a language
-pub data IsUnopened (known : Option FileSystem) (language : Language) (name : Text) : StartRefusal → Type 0 where
-  unread : (e : FileError) → IsReading known name (Err e) → IsUnopened known language name (Plain (file_refusal e))
+-- what is wrong with a file that gives no policy of a language
+pub data HasFault (known : Option FileSystem) (language : Language) (name : Text) : FileFault → Type 0 where
+  unread : (e : FileError) → IsReading known name (Err e) → HasFault known language name (fault_of_file e)
   refused : {document : List ℕ} {e : PolicyRefusal} → language ≡ Profile → IsReading known name (Ok document)
-      → IsPolicyRefused document e → IsUnopened known language name (Plain (Policy e))
+      → IsPolicyRefused document e → HasFault known language name (Refused e)
   refused_wide : {rule : MessageRule} {document : List ℕ} {e : WideRefusal} → language ≡ Wide rule
       → IsReading known name (Ok document) → IsWideRefused rule document e
-      → IsUnopened known language name (Cluster (Untaken e))
-  no_memory : IsUnopened known language name (Plain Memory)
+      → HasFault known language name (RefusedWide e)
+  no_memory : HasFault known language name file_fault.Memory
+
+-- why a policy's file gives no policy of a language
+pub record IsUnopened (known : Option FileSystem) (language : Language) (name : Text) (r : StartRefusal) : Type 0 where
+  pub fault : FileFault
+  pub has : HasFault known language name fault
+  pub told : IsRefusalOf name fault r
 
 -- one policy does not open, and those before it do
 pub record OneUnopened (known : Option FileSystem) (language : Language) (names : List Text) (r : StartRefusal) : Type 0 where
@@ -52,12 +58,12 @@ pub record OneUnopened (known : Option FileSystem) (language : Language) (names 
 -- read.
 pub data GatekeeperStarts (known : Option FileSystem) (order : GatekeeperOrder) : Result Gatekeeper StartRefusal → Type 0 where
   no_policy : {r : StartRefusal} → OneUnopened known order.language order.policies r → GatekeeperStarts known order (Err r)
-  no_namespace : (e : FileError) {policies : List PolicyFile} → Opens known order.language order.policies policies
-      → IsReadingGiven known order.namespace (Err e) → GatekeeperStarts known order (Err (Plain (file_refusal e)))
-  no_params : (e : FileError) (namespace : Option (List ℕ)) {policies : List PolicyFile}
+  no_namespace : {r : StartRefusal} {policies : List PolicyFile} → Opens known order.language order.policies policies
+      → IsUnreadGiven known order.namespace r → GatekeeperStarts known order (Err r)
+  no_params : {r : StartRefusal} (namespace : Option (List ℕ)) {policies : List PolicyFile}
       → Opens known order.language order.policies policies
-      → IsReadingGiven known order.namespace (Ok namespace) → IsReadingGiven known order.params (Err e)
-      → GatekeeperStarts known order (Err (Plain (file_refusal e)))
+      → IsReadingGiven known order.namespace (Ok namespace) → IsUnreadGiven known order.params r
+      → GatekeeperStarts known order (Err r)
   ready : {policies : List PolicyFile} {namespace params : Option (List ℕ)} → Opens known order.language order.policies policies
       → IsReadingGiven known order.namespace (Ok namespace) → IsReadingGiven known order.params (Ok params)
       → GatekeeperStarts known order (Ok (record {
@@ -76,18 +82,23 @@ KeepsFrom known order (Ok k) = (policies : List PolicyFile) × AreGates policies
     × GatekeeperStarts known order (Ok (gatekeeper_of policies k))
 KeepsFrom known order (Err r) = GatekeeperStarts known order (Err r)
 
--- the gate of the policy in this file, or its refusal
-abbrev pub OpensNamed : Option FileSystem → Language → Text → Result NamedGate StartRefusal → Type 0
-OpensNamed known language name (Ok gate) =
+-- the gate of the policy in this file, or what is wrong with the file
+abbrev pub OpensFile : Option FileSystem → Language → Text → Result NamedGate FileFault → Type 0
+OpensFile known language name (Ok gate) =
     (document : List ℕ) × IsReading known name (Ok document)
     × IsGateOf (record { file = name; language = language; document = document }) gate
+OpensFile known language name (Err f) = HasFault known language name f
+
+-- the gate of the policy in this file, or its refusal
+abbrev pub OpensNamed : Option FileSystem → Language → Text → Result NamedGate StartRefusal → Type 0
+OpensNamed known language name (Ok gate) = OpensFile known language name (Ok gate)
 OpensNamed known language name (Err r) = IsUnopened known language name r
 
--- the gate of the policy in a document of a language, or its refusal
-abbrev pub OpensIn : Language → List ℕ → Result GatePolicy StartRefusal → Type 0
+-- the gate of the policy in a document of a language, or what is wrong with a file that holds it
+abbrev pub OpensIn : Language → List ℕ → Result GatePolicy FileFault → Type 0
 OpensIn language document (Ok gate) = IsGateOn language document gate × OneImage gate.policy gate.image
-OpensIn language document (Err r) =
-    (known : Option FileSystem) (name : Text) → IsReading known name (Ok document) → IsUnopened known language name r
+OpensIn language document (Err f) =
+    (known : Option FileSystem) (name : Text) → IsReading known name (Ok document) → HasFault known language name f
 
 -- the gates of the policies in these files, or the first refusal
 abbrev pub GatesFrom : Option FileSystem → Language → List Text → Result (Vec NamedGate Global) StartRefusal → Type 0

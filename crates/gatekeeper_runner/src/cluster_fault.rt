@@ -1,10 +1,10 @@
-//! Why a cluster or a policy is refused.
+//! Why a cluster or a file is refused.
 
-use admission::WideRefusal;
+use crate::file_fault::FileFault;
 use cluster_gate::BlockCause;
 use cluster_state::StateError;
 
-/// Why the state of a cluster, or a policy in the wide language, is refused, and no line is read.
+/// Why the state of a cluster, or a file, is refused, and no line is read.
 #[derive(Drop)]
 pub enum ClusterFault {
     /// The file of this name holds no List.
@@ -13,6 +13,6 @@ pub enum ClusterFault {
     NoState(StateError),
     /// The policy of this name is blocked.
     Blocked(String, BlockCause),
-    /// A policy in the wide language is refused.
-    Untaken(WideRefusal),
+    /// The file of this name is not read, or the policy in it is refused.
+    InFile(String, FileFault),
 }

@@ -1,10 +1,12 @@
-//! The line of standard error on a cluster's state that is refused.
+//! The line of standard error on a cluster's state or a file that is refused.
 ghost use Rattle.std.specs.Prelude.{◌≡◌, ◌++◌, decimal, IfOk, OnOk};
 ghost use Rattle.gatekeeper_runner.specs.ClusterStarting.{code_and_name, fault_line, fault_text, state_text};
+ghost use Rattle.gatekeeper_runner.specs.FileFaults.{file_front, file_text};
 
 use crate::cluster_fault::ClusterFault;
+use crate::file_fault::FileFault;
 use crate::telling::add_cause;
-use cli::{add_number, add_wide};
+use cli::{add_number, add_policy, add_wide};
 use cluster_state::StateError;
 use std::alloc::{AllocError, Global};
 
@@ -29,8 +31,42 @@ fn add_fault(alloc: Global, line: &mut Vec<u8>, fault: &ClusterFault) -> Result<
             add_named(line, cause.refusal().code(), name.as_str())?;
             add_cause(alloc, line, cause)
         }
-        ClusterFault::Untaken(error) => add_wide(alloc, line, error),
+        ClusterFault::InFile(name, fault) => add_file(alloc, line, name.as_str(), fault),
     }
+}
+
+/// Adds what is wrong with the file of this name.
+fn add_file(
+    alloc: Global,
+    line: &mut Vec<u8>,
+    name: &str,
+    fault: &FileFault,
+) -> Result<(), AllocError>
+    ensures { OnOk result (line.new.items ≡ line.old.items ++ file_text name.now fault.now) }
+{
+    match fault {
+        FileFault::Unread => {
+            add_front(line, name)?;
+            add_text(line, "file")
+        }
+        FileFault::Refused(error) => {
+            add_front(line, name)?;
+            add_policy(alloc, line, *error)
+        }
+        FileFault::RefusedWide(error) => {
+            add_front(line, name)?;
+            add_wide(alloc, line, error)
+        }
+        FileFault::Memory => add_text(line, "memory"),
+    }
+}
+
+/// Adds the name of a file, before what is wrong with it.
+fn add_front(line: &mut Vec<u8>, name: &str) -> Result<(), AllocError>
+    ensures { OnOk result (line.new.items ≡ line.old.items ++ file_front name.now) }
+{
+    add_text(line, name)?;
+    add_text(line, ": ")
 }
 
 /// Adds why lists are not the state of a cluster.

@@ -15,6 +15,8 @@ mod cluster_task;
 mod command_line;
 mod errors;
 mod fault_line;
+mod file_fault;
+mod file_reading;
 mod gatekeeper;
 mod joining;
 mod labeling;

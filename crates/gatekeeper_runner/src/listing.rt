@@ -3,6 +3,7 @@ ghost use Rattle.std.specs.Prelude.{◌≡◌, map, string_bytes};
 ghost use Rattle.gatekeeper_runner.specs.ClusterStarting.{ListRead, ListsRead};
 
 use crate::cluster_fault::ClusterFault;
+use crate::file_reading::read_file;
 use crate::start_refusal::StartRefusal;
 use cluster_state::parse;
 use host::Files;
@@ -39,7 +40,7 @@ fn read_list<F: Files>(alloc: Global, name: &str, files: &mut F) -> Result<Value
     ensures list { ListRead (F.known files.old) name.now result }
     ensures known { F.known files.new ≡ F.known files.old }
 {
-    let text = files.read(alloc, name)?;
+    let text = read_file(alloc, name, files)?;
     match parse(alloc, text.as_slice())? {
         Some(list) => Ok(list),
         None => {

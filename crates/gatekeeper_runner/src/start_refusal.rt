@@ -1,24 +1,23 @@
 //! Why no line is read.
 ghost use Rattle.std.specs.Prelude.{◌≡◌};
-ghost use Rattle.cli.specs.Refusals.{file_refusal, order_refusal, policy_refusal_of};
+ghost use Rattle.cli.specs.Refusals.{order_refusal};
 ghost use Rattle.cli.specs.declared.refusal.Refusal.TheVariants.{Memory};
-ghost use Rattle.gatekeeper_runner.specs.ClusterStarting.{refusal_of_cluster, refusal_of_state, refusal_of_wide};
+ghost use Rattle.gatekeeper_runner.specs.ClusterStarting.{refusal_of_cluster, refusal_of_state};
 ghost use Rattle.gatekeeper_runner.specs.declared.start_refusal.StartRefusal.TheVariants.{Plain};
 
 use crate::cluster_fault::ClusterFault;
-use admission::{PolicyRefusal, WideRefusal};
 use cli::Refusal;
 use cluster_gate::ClusterError;
 use cluster_state::StateError;
-use host::{FileError, OrderError};
+use host::OrderError;
 use std::alloc::{AllocError, AllocFailed};
 
 /// Why no line is read.
 #[derive(Drop)]
 pub enum StartRefusal {
-    /// The words, a file or a policy is refused, or memory ran out.
+    /// The words are refused, or memory ran out.
     Plain(Refusal),
-    /// The state of a cluster, or a policy in the wide language, is refused.
+    /// The state of a cluster, a file, or the policy in one, is refused.
     Cluster(ClusterFault),
 }
 
@@ -43,41 +42,6 @@ impl From<OrderError> for StartRefusal {
 
     fn from(error: OrderError) -> StartRefusal {
         StartRefusal::Plain(Refusal::from(error))
-    }
-}
-
-impl From<FileError> for StartRefusal {
-    ghost from_gives = { λ e r. r ≡ Plain (file_refusal e) };
-
-    fn from(error: FileError) -> StartRefusal {
-        StartRefusal::Plain(Refusal::from(error))
-    }
-}
-
-impl From<Refusal> for StartRefusal {
-    ghost from_gives = { λ e r. r ≡ Plain e };
-
-    fn from(refusal: Refusal) -> StartRefusal {
-        StartRefusal::Plain(refusal)
-    }
-}
-
-impl From<PolicyRefusal> for StartRefusal {
-    ghost from_gives = { λ e r. r ≡ Plain (policy_refusal_of e) };
-
-    fn from(error: PolicyRefusal) -> StartRefusal {
-        StartRefusal::Plain(Refusal::from(error))
-    }
-}
-
-impl From<WideRefusal> for StartRefusal {
-    ghost from_gives = { λ e r. r ≡ refusal_of_wide e };
-
-    fn from(error: WideRefusal) -> StartRefusal {
-        match error {
-            WideRefusal::Memory => StartRefusal::Plain(Refusal::Memory),
-            other => StartRefusal::Cluster(ClusterFault::Untaken(other)),
-        }
     }
 }
 

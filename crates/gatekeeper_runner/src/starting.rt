@@ -1,15 +1,17 @@
 //! Prepares the gatekeeper before the first line.
 ghost use Rattle.std.specs.Prelude.{◌≡◌, map, string_bytes, ℕ, List};
 ghost use Rattle.gatekeeper_runner.specs.Orders.{order_view};
-ghost use Rattle.gatekeeper_runner.specs.Starting.{GatesFrom, KeepsFrom, OpensIn, OpensNamed};
+ghost use Rattle.gatekeeper_runner.specs.Starting.{GatesFrom, KeepsFrom, OpensFile, OpensIn, OpensNamed};
 
+use crate::file_fault::FileFault;
+use crate::file_reading::{in_file, read_optional};
 use crate::gatekeeper::Gatekeeper;
 use crate::labeling::label_of;
 use crate::named_gate::NamedGate;
 use crate::policy_order::PolicyOrder;
 use crate::start_refusal::StartRefusal;
 use admission::{Gate, Language, WideGate};
-use cli::{Refusal, read_given};
+use cli::Refusal;
 use host::Files;
 use review_tables::SharedDocuments;
 use std::alloc::Global;
@@ -30,8 +32,8 @@ pub fn start<F: Files>(
     ensures known { F.known files.new ≡ F.known files.old }
 {
     let gates = open_each(alloc, order.policies.as_slice(), order.language, files)?;
-    let namespace = read_given(alloc, &order.namespace, files)?;
-    let params = read_given(alloc, &order.params, files)?;
+    let namespace = read_optional(alloc, &order.namespace, files)?;
+    let params = read_optional(alloc, &order.params, files)?;
     let documents = SharedDocuments::new(alloc, namespace, params);
     Ok(Gatekeeper {
         alloc,
@@ -73,6 +75,23 @@ fn open<F: Files>(
     ensures gate { OpensNamed (F.known files.old) language name.now result }
     ensures known { F.known files.new ≡ F.known files.old }
 {
+    match open_file(alloc, name, language, files) {
+        Ok(gate) => Ok(gate),
+        Err(fault) => Err(in_file(alloc, name, fault)),
+    }
+}
+
+/// Compiles the policy of this language in the file with this name, or says what is wrong with the
+/// file.
+fn open_file<F: Files>(
+    alloc: Global,
+    name: &str,
+    language: Language,
+    files: &mut F,
+) -> Result<NamedGate, FileFault>
+    ensures gate { OpensFile (F.known files.old) language name.now result }
+    ensures known { F.known files.new ≡ F.known files.old }
+{
     let document = files.read(alloc, name)?;
     let gate = gate_of(alloc, document.as_slice(), language)?;
     let label = label_of(alloc, name, document.as_slice())?;
@@ -80,7 +99,7 @@ fn open<F: Files>(
 }
 
 /// The gate of the policy of this language in a document.
-fn gate_of(alloc: Global, document: &[u8], language: Language) -> Result<Gate, StartRefusal>
+fn gate_of(alloc: Global, document: &[u8], language: Language) -> Result<Gate, FileFault>
     ensures { OpensIn language document.now result }
 {
     match language {

@@ -1,8 +1,10 @@
 //! Translates a policy.
 ghost use Rattle.std.specs.Prelude.{◌≡◌};
 ghost use Rattle.gatekeeper_runner.specs.Orders.{translation_order_view};
-ghost use Rattle.gatekeeper_runner.specs.Translating.{ReadsTranslated, TranslatesFrom};
+ghost use Rattle.gatekeeper_runner.specs.Translating.{ReadsTranslated, TranslatesFile, TranslatesFrom};
 
+use crate::file_fault::FileFault;
+use crate::file_reading::in_file;
 use crate::labeling::label_of;
 use crate::start_refusal::StartRefusal;
 use crate::telling::add_notes;
@@ -27,6 +29,21 @@ pub fn translate<F: Files>(
     files: &mut F,
 ) -> Result<Translation, StartRefusal>
     ensures translates { TranslatesFrom (F.known files.old) (translation_order_view order.now) result }
+    ensures known { F.known files.new ≡ F.known files.old }
+{
+    match translate_file(alloc, order, files) {
+        Ok(translation) => Ok(translation),
+        Err(fault) => Err(in_file(alloc, order.file.as_str(), fault)),
+    }
+}
+
+/// What is written for the policy in the file that the order names, or what is wrong with the file.
+fn translate_file<F: Files>(
+    alloc: Global,
+    order: &TranslationOrder,
+    files: &mut F,
+) -> Result<Translation, FileFault>
+    ensures translates { TranslatesFile (F.known files.old) (translation_order_view order.now) result }
     ensures known { F.known files.new ≡ F.known files.old }
 {
     let file = order.file.as_str();

@@ -2,6 +2,7 @@
 
 import json
 import subprocess
+from collections.abc import Iterable
 from typing import Any, Optional
 
 from ..documents import json_fault
@@ -9,6 +10,8 @@ from ..entry import Stop
 from .program import NotAnswered, Program
 
 REFUSED = 3
+# how the line of a refusal begins; a gatekeeper's goes on with the name of the file, if the refusal is of one
+REFUSAL = "celbpf: "
 # the refusals of a run that was not finished, and their status
 NOT_FINISHED, UNFINISHED = ("N4", "N5", "N7"), 4
 # the most bytes of a line that a gatekeeper reads
@@ -24,7 +27,7 @@ class Gatekeeper(Program):
         if ran.returncode not in (0, REFUSED):
             raise Stop(f"the gatekeeper ended with status {ran.returncode}: {ran.stderr.strip()}")
         if ran.returncode:
-            raise NotAnswered(ran)
+            raise NotAnswered(subprocess.CompletedProcess(ran.args, ran.returncode, ran.stdout, without_file(ran.stderr, words)))
         return ran.stdout
 
     def refusal(self, policy: Any) -> str:
@@ -46,6 +49,15 @@ class Gatekeeper(Program):
             status = UNFINISHED if said["refused"] in NOT_FINISHED else REFUSED
             raise NotAnswered(subprocess.CompletedProcess([], status, "", f"celbpf: {said['refused']}"))
         return said["response"]
+
+
+def without_file(line: str, words: Iterable[Any]) -> str:
+    """A line of standard error without the file that it names, if that is one of these words."""
+    for word in words:
+        front = f"{REFUSAL}{word}: "
+        if line.startswith(front):
+            return REFUSAL + line.removeprefix(front)
+    return line
 
 
 def line_of(text: bytes) -> Optional[str]:

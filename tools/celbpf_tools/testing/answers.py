@@ -8,6 +8,7 @@ from pathlib import Path
 from typing import Any, Callable, Optional
 
 from ..asking.files import Files
+from ..asking.gatekeeper import without_file
 from ..asking.program import NotAnswered, Program
 from ..asking.translating import Translating
 from ..documents import Unreadable, json_fault, one_in
@@ -166,7 +167,7 @@ class Programs:
             return [answer_of(line) for line in answers]
         if ran.returncode == 2 and "--cluster" in words:
             return [Unreadable("this gatekeeper has no --cluster")] * len(texts)
-        return [Answer(refusal=refusal_of(ran))] * len(texts)
+        return [Answer(refusal=refusal_of(ran, words))] * len(texts)
 
 
 def run(words: list[Any], asked: str = "") -> subprocess.CompletedProcess[str]:
@@ -174,7 +175,7 @@ def run(words: list[Any], asked: str = "") -> subprocess.CompletedProcess[str]:
     return subprocess.run([str(word) for word in words], input=asked, capture_output=True, encoding="utf-8", check=False)
 
 
-def refusal_of(ran: subprocess.CompletedProcess[str]) -> str:
-    """The refusal on standard error; a policy's is told without the N1 of `review`."""
-    said = ran.stderr.strip().removeprefix("celbpf: ")
+def refusal_of(ran: subprocess.CompletedProcess[str], words: tuple[Any, ...] = ()) -> str:
+    """The refusal on standard error; a policy's is told without the N1 of `review`, and without the gatekeeper's file."""
+    said = without_file(ran.stderr.strip(), words).removeprefix("celbpf: ")
     return said.removeprefix("N1 ") or f"status {ran.returncode} and no word"

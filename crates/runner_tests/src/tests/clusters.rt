@@ -31,7 +31,7 @@ const ROWS: [(&str, u8, &str, &str); 34] = [
     ("gatekeeper --cluster policies", 0, NOTHING_BOUND, ""),
     ("gatekeeper --cluster none", 3, "", "celbpf: C1 none\n"),
     ("gatekeeper --cluster policies --cluster namespace", 3, "", "celbpf: C1 namespace\n"),
-    ("gatekeeper --cluster policies --cluster missing --cluster none", 3, "", "celbpf: file\n"),
+    ("gatekeeper --cluster policies --cluster missing --cluster none", 3, "", "celbpf: missing: file\n"),
     ("gatekeeper --cluster no-item", 3, "", "celbpf: C2 1\n"),
     ("gatekeeper --cluster double", 3, "", "celbpf: C3 prod\n"),
     ("gatekeeper --cluster no-namespace", 3, "", "celbpf: C4\n"),

@@ -65,6 +65,10 @@ returns-clause-refusals c = record {
   code_of_a_refused_policy = refl;
   code_of_a_name = refl;
   code_of_a_kind = refl;
+  unread_file = refl;
+  refused_file = refl;
+  refused_wide_file = refl;
+  no_memory_for_a_file = refl;
 }
 
 pub returns-clause-named : goal.returns-clause-named
@@ -76,6 +80,7 @@ returns-clause-named c = record {
   no_list = λ name. refl;
   no_kind = λ name. refl;
   named = λ name. refl;
+  in_file = λ name fault. refl;
 }
 
 pub returns-clause-policies : goal.returns-clause-policies

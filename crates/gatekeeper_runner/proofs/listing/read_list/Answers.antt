@@ -5,7 +5,7 @@ use Rattle.gatekeeper_runner.specs.ClusterStarting.{no_json, no_memory, unread}
 use Rattle.gatekeeper_runner.proofs.listing.read_list.Goals as goal
 
 pub returns-in_err-text-clause-list : goal.returns-in_err-text-clause-list
-returns-in_err-text-clause-list g c = rw (is_err c.from_residual.ensures.1) (unread _ c.in_err-text.ensures.read)
+returns-in_err-text-clause-list g c = rw (is_err c.from_residual.ensures.1) (unread c.in_err-text.ensures.read)
 
 pub returns-in_err-list-clause-list : goal.returns-in_err-list-clause-list
 returns-in_err-list-clause-list g c = rw (is_err c.from_residual-in_err-list.ensures.1) no_memory

@@ -2,6 +2,7 @@
 
 use Rattle.gatekeeper_runner.proofs.Prelude.{◌∙◌, [], refl, is_err}
 use Rattle.cli.specs.declared.refusal.Refusal.TheVariants.{Memory}
+use Rattle.gatekeeper_runner.specs.declared.file_fault.FileFault.TheVariants as file_fault
 use Rattle.gatekeeper_runner.specs.declared.start_refusal.StartRefusal.TheVariants.{Plain}
 use Rattle.gatekeeper_runner.specs.Starting.{no_memory, none}
 use Rattle.gatekeeper_runner.proofs.Opened.{opened_more, unopened}
@@ -16,7 +17,8 @@ returns-in_err-gate-clause-gates g c =
     (unopened _ _ _ _ c.name-item.result _ c.loop-name-test.true c.name-item.is c.loop-name.invariant.opened _ (rw (c.as_str.ensures.value, c.loop-name.invariant.known) at c.in_err-gate.ensures.gate))
 
 pub returns-in-Err-clause-gates : goal.returns-in-Err-clause-gates
-returns-in-Err-clause-gates g c = unopened _ _ _ _ c.name-item.result _ c.loop-name-test.true c.name-item.is c.loop-name.invariant.opened (Plain Memory) no_memory
+returns-in-Err-clause-gates g c = unopened _ _ _ _ c.name-item.result _ c.loop-name-test.true c.name-item.is c.loop-name.invariant.opened (Plain Memory)
+    (record { fault = file_fault.Memory; has = no_memory; told = refl })
 
 pub loop-name-preserved : goal.loop-name-preserved
 loop-name-preserved g c = record {

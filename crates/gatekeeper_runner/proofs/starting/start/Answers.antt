@@ -9,14 +9,14 @@ returns-in_err-gates-clause-keeps g c = rw (is_err c.from_residual.ensures.1) (n
 pub returns-in_err-namespace-clause-keeps : goal.returns-in_err-namespace-clause-keeps
 returns-in_err-namespace-clause-keeps g c =
     let opened = rw c.as_slice.ensures.value at c.in_ok-gates.ensures.gates in
-    rw (is_err c.from_residual-in_err-namespace.ensures.1) (no_namespace _ opened.2 (rw c.in_ok-gates.ensures.known at c.in_err-namespace.ensures.read))
+    rw (is_err c.from_residual-in_err-namespace.ensures.1) (no_namespace opened.2 (rw c.in_ok-gates.ensures.known at c.in_err-namespace.ensures.read))
 
 pub returns-in_err-params-clause-keeps : goal.returns-in_err-params-clause-keeps
 returns-in_err-params-clause-keeps g c =
     let opened = rw c.as_slice.ensures.value at c.in_ok-gates.ensures.gates in
     let namespace = rw c.in_ok-gates.ensures.known at c.in_ok-namespace.ensures.read in
     let params = rw (c.in_ok-namespace.ensures.known, c.in_ok-gates.ensures.known) at c.in_err-params.ensures.read in
-    rw (is_err c.from_residual-in_err-params.ensures.1) (no_params _ _ opened.2 namespace params)
+    rw (is_err c.from_residual-in_err-params.ensures.1) (no_params _ opened.2 namespace params)
 
 pub returns-clause-keeps : goal.returns-clause-keeps
 returns-clause-keeps g c =
