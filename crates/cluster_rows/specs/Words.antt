@@ -2,7 +2,7 @@
 use Rattle.std.specs.Prelude.{◌≡◌, true, false, ℕ, List, [], ◌∷◌, ◌++◌, Some, None, Ok, Err, codes}
 use Rattle.clap.specs.Words.{Text}
 use Rattle.host.specs.declared.order_error.OrderError.TheVariants.{InvalidArguments}
-use Rattle.gatekeeper_runner.specs.About.{text_asked}
+use Rattle.gatekeeper_runner.specs.About.{text_asked, version_text}
 use Rattle.gatekeeper_runner.specs.Orders.{by_cluster, by_policies, by_translation, entered, faults, has_status, is_partial, is_profile}
 use Rattle.gatekeeper_runner.specs.Orders.{is_verbose, leaves_messages, order_from, order_of_words}
 use Rattle.wide_policy.specs.declared.message_rule.MessageRule.TheVariants.{Required, LeftOut}
@@ -271,11 +271,18 @@ usage =
     ++ (codes "  --status       ends with status 1 if an answer is a denial or a refusal\n"
     ++ codes "  --help         prints this text\n  --version      prints the version\n")))))))))))))))))))
 
--- the first word after the program's name asks for a text
+-- --help anywhere after the program's name asks for a text, --version in front of the other words
 pub record HelpRowsHold : Type 0 where
   pub help : text_asked (Ok (codes "gatekeeper" ∷ codes "--help" ∷ [])) ≡ Some usage
   pub help_before_others : text_asked (Ok (codes "gatekeeper" ∷ codes "--help" ∷ codes "--policy" ∷ [])) ≡ Some usage
-  pub help_after_others : text_asked (Ok (under_policy ++ codes "--help" ∷ [])) ≡ None
+  pub help_after_others : text_asked (Ok (under_policy ++ codes "--help" ∷ [])) ≡ Some usage
+  pub help_between_others : text_asked (Ok (under_policy ++ codes "--help" ∷ codes "--status" ∷ [])) ≡ Some usage
+  pub help_as_a_value : text_asked (Ok (codes "gatekeeper" ∷ codes "--policy" ∷ codes "--help" ∷ [])) ≡ Some usage
+  pub help_as_the_name : text_asked (Ok (codes "--help" ∷ [])) ≡ None
+  pub help_after_version : text_asked (Ok (codes "gatekeeper" ∷ codes "--version" ∷ codes "--help" ∷ [])) ≡ Some usage
+  pub other_option : text_asked (Ok (codes "gatekeeper" ∷ codes "--helper" ∷ [])) ≡ None
+  pub version : text_asked (Ok (codes "gatekeeper" ∷ codes "--version" ∷ codes "--policy" ∷ [])) ≡ Some version_text
+  pub version_after_others : text_asked (Ok (under_policy ++ codes "--version" ∷ [])) ≡ None
   pub other_word : text_asked (Ok under_policy) ≡ None
   pub no_word : text_asked (Ok (codes "gatekeeper" ∷ [])) ≡ None
   pub no_words : text_asked (Err InvalidArguments) ≡ None

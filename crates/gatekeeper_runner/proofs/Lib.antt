@@ -5,6 +5,7 @@ mod Tallies
 mod RefusalTexts
 mod TranslationTexts
 mod Opened
+mod Asked
 mod Translated
 mod Programs
 mod Shape

@@ -1,5 +1,6 @@
 -- The help and version texts.
-use Rattle.std.specs.Prelude.{◌∷◌, ◌++◌, codes, Option, Some, None, Ok, if◌then◌else◌}
+use Rattle.std.specs.Prelude.{Bool, List, [], ◌∷◌, ◌++◌, codes, Option, Some, None, Ok, if◌then◌else◌}
+use Rattle.std.specs.List.{list_any}
 use Rattle.std.specs.Str.{bytes_eq}
 use Rattle.clap.specs.Words.{Text}
 use Rattle.cli.specs.Ending.{Given}
@@ -42,13 +43,24 @@ help_text =
 unfoldable pub version_text : Text
 version_text = codes "gatekeeper 0.20261130\n"
 
--- the text for a word
-abbrev pub text_of_word : Text → Option Text
-text_of_word word =
-    if bytes_eq word (codes "--help") then Some help_text
-    else (if bytes_eq word (codes "--version") then Some version_text else None)
+abbrev pub is_help : Text → Bool
+is_help word = bytes_eq word (codes "--help")
 
--- the text for the first word after the program's name
+-- the text for `--version`, if it is the first of these words
+abbrev pub version_asked : List Text → Option Text
+version_asked [] = None
+version_asked (word ∷ words) = if bytes_eq word (codes "--version") then Some version_text else None
+
+-- the text for the words after the program's name: for `--help` wherever it is, or else for `--version` in front
+abbrev pub text_of_words : List Text → Option Text
+text_of_words words = if list_any is_help words then Some help_text else version_asked words
+
+-- the text for all words
+abbrev pub text_after_name : List Text → Option Text
+text_after_name [] = None
+text_after_name (name ∷ words) = text_of_words words
+
+-- the text that the words ask for
 abbrev pub text_asked : Given → Option Text
-text_asked (Ok (name ∷ word ∷ words)) = text_of_word word
+text_asked (Ok words) = text_after_name words
 text_asked _ = None

@@ -1,30 +1,76 @@
 //! The help and version texts.
-ghost use Rattle.std.specs.Prelude.{◌≡◌, option_map};
+ghost use Rattle.std.specs.Prelude.{◌≡◌, [], ◌∷◌, map, option_map, string_bytes};
+ghost use Rattle.std.specs.List.{list_any};
 ghost use Rattle.cli.specs.Ending.{given_of};
-ghost use Rattle.gatekeeper_runner.specs.About.{help_text, text_asked, text_of_word, version_text};
+ghost use Rattle.gatekeeper_runner.specs.About.{help_text, is_help, text_after_name, text_asked, text_of_words, version_asked, version_text};
 
 use host::OrderError;
 
-/// The text for `--help` or `--version`, if this is the first word after the program's name.
+/// The text for `--help`, if one of the words after the program's name is that, or for `--version`,
+/// if the first of them is.
 pub fn text_asked(words: &Result<Vec<String>, OrderError>) -> Option<&'static str>
     ensures { option_map (λ s. s.now) result ≡ text_asked (given_of words.now) }
 {
     match words {
-        Ok(words) => match words.as_slice() {
-            [_, word, ..] => text_of_word(word.as_str()),
-            _ => None,
-        },
+        Ok(words) => text_after_name(words.as_slice()),
         Err(_) => None,
     }
 }
 
-/// The text for this word.
-fn text_of_word(word: &str) -> Option<&'static str>
-    ensures { option_map (λ s. s.now) result ≡ text_of_word word.now }
+/// The text for all words.
+fn text_after_name(words: &[String]) -> Option<&'static str>
+    ensures { option_map (λ s. s.now) result ≡ text_after_name (map string_bytes words.now) }
 {
-    if word == "--help" {
+    match words {
+        [] => None,
+        [_, words @ ..] => text_of_words(words),
+    }
+}
+
+/// The text for the words after the program's name.
+fn text_of_words(words: &[String]) -> Option<&'static str>
+    ensures { option_map (λ s. s.now) result ≡ text_of_words (map string_bytes words.now) }
+{
+    if asks_help(words) {
         Some(help_text())
-    } else if word == "--version" {
+    } else {
+        version_asked(words)
+    }
+}
+
+/// Whether one of the words is `--help`.
+fn asks_help(words: &[String]) -> bool
+    ensures { result ≡ list_any is_help (map string_bytes words.now) }
+{
+    some_is_help(words)
+}
+
+fn some_is_help(words: &[String]) -> bool
+    ensures { result ≡ list_any (λ w. is_help (string_bytes w)) words.now }
+{
+    words.iter().any(|word| is_help(word.as_str()))
+}
+
+fn is_help(word: &str) -> bool
+    ensures { result ≡ is_help word.now }
+{
+    word == "--help"
+}
+
+/// The text for `--version`, if it is the first of these words.
+fn version_asked(words: &[String]) -> Option<&'static str>
+    ensures { option_map (λ s. s.now) result ≡ version_asked (map string_bytes words.now) }
+{
+    match words {
+        [] => None,
+        [word, ..] => version_of(word.as_str()),
+    }
+}
+
+fn version_of(word: &str) -> Option<&'static str>
+    ensures { option_map (λ s. s.now) result ≡ version_asked (word.now ∷ []) }
+{
+    if word == "--version" {
         Some(version_text())
     } else {
         None

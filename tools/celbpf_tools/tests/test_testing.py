@@ -6,6 +6,7 @@ import xml.etree.ElementTree as xml
 from pathlib import Path
 from typing import Any
 
+from ..asking.gatekeeper import without_file
 from ..asking.policies import whole
 from ..asking.program import Program
 from ..testing import output
@@ -89,6 +90,18 @@ class Wanted(Files):
     def test_lines_of_a_gatekeeper(self) -> None:
         self.assertEqual(answer_of('{"refused":"N4","uid":"u"}'), Answer(refusal="N4"))
         self.assertEqual(answer_of('{"response":{"allowed":true,"uid":"u"}}'), Answer(True))
+
+    def test_the_file_that_a_refusal_names(self) -> None:
+        words = ("--policy", Path("a/p.json"), "--params", "a/q.json")
+        for line, due in [
+            ("celbpf: a/p.json: K6 validation 0 W5 url", "celbpf: K6 validation 0 W5 url"),
+            ("celbpf: a/q.json: file", "celbpf: file"),
+            ("celbpf: b/p.json: K2", "celbpf: b/p.json: K2"),
+            ("celbpf: memory", "celbpf: memory"),
+            ("", ""),
+        ]:
+            with self.subTest(line):
+                self.assertEqual(without_file(line, words), due)
 
     def test_only_a_cluster_has_the_gatekeeper_built(self) -> None:
         asked: list[Any] = []
