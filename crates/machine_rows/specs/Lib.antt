@@ -8,5 +8,6 @@ pub mod SourceRows
 pub mod ValueRows
 pub mod HelperRows
 pub mod RunRows
+pub mod ExpressionReads
 pub mod SessionRows
 pub mod RoundTrip

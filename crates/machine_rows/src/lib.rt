@@ -7,6 +7,7 @@ mod rows;
 
 pub use laws::listing_assembles_to_code;
 pub use rows::{
-    helper_rows_stand, image_rows_stand, instruction_rows_stand, memory_rows_stand, run_rows_stand,
-    session_rows_stand, source_rows_stand, stream_rows_stand, value_rows_stand, word_rows_stand,
+    expression_reads_stand, helper_rows_stand, image_rows_stand, instruction_rows_stand,
+    memory_rows_stand, run_rows_stand, session_rows_stand, source_rows_stand, stream_rows_stand,
+    value_rows_stand, word_rows_stand,
 };

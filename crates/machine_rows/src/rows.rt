@@ -1,4 +1,5 @@
 //! Rows worked out by hand, each record of them a clause of an empty function.
+ghost use Rattle.machine_rows.specs.ExpressionReads.{ExpressionReadsHold, SearchLoopHolds, SearchRunHolds};
 ghost use Rattle.machine_rows.specs.HelperRows.{BoundRowsHold, CallRowsHold};
 ghost use Rattle.machine_rows.specs.ImageRows.{ImageRowsHold, CodeListingsHold};
 ghost use Rattle.machine_rows.specs.InstructionRows.{FieldRowsHold, RegisterRowsHold, StatementRowsHold};
@@ -61,6 +62,13 @@ pub fn value_rows_stand()
 pub fn helper_rows_stand()
     ensures bounds { BoundRowsHold }
     ensures calls { CallRowsHold }
+{}
+
+/// What expressions read call by call, the turns of a loop, and a run with its limits.
+pub fn expression_reads_stand()
+    ensures calls { ExpressionReadsHold }
+    ensures loops { SearchLoopHolds }
+    ensures runs { SearchRunHolds }
 {}
 
 /// Addresses, local calls, and single steps.
