@@ -167,18 +167,36 @@ fn ends_at_the_first_of_two_limits(rt: HostRuntime) -> Result<(), Fail> {
     Ok(())
 }
 
-/// A text of 1,200,000 letters is searched for each of 100,000 items: 1,200,006 bytes each time, which is within
-/// 16,777,216 bytes 13 times.
+/// Items of a list, a limit of reads, and the end.
+///
+/// The key `l` reads 2. The turn for an item reads 1,200,006: the key `t`, twice for two entries, the literal of
+/// 2 bytes, and a search of 2 bytes in 1,200,000. So 2^24 bytes have room for 13 turns, and 2^28 for 223.
+#[rattlefmt::skip]
+const TURNS: [(usize, u64, End); 5] = [
+    (13, 16_777_216, ALLOWED),
+    (14, 16_777_216, OUT_OF_READS),
+    (223, 268_435_456, ALLOWED),
+    (224, 268_435_456, OUT_OF_READS),
+    (100_000, 268_435_456, OUT_OF_READS),
+];
+
+/// The object with a list of this many items and a text of 1,200,000 letters.
+fn list_and_letters(alloc: Global, items: usize) -> Result<String, Fail> {
+    let letters = "a".repeat(alloc, 1_200_000)?;
+    let others = "1,".repeat(alloc, items.saturating_sub(1))?;
+    Ok(format!(in alloc; "{{\"l\":[{others}1],\"t\":\"{letters}\"}}")?)
+}
+
 #[test]
 fn ends_a_loop_of_searches(rt: HostRuntime) -> Result<(), Fail> {
-    let letters = "a".repeat(rt.alloc(), 1_200_000)?;
-    let items = "1,".repeat(rt.alloc(), 99_999)?;
-    let object = format!(in rt.alloc(); "{{\"l\":[{items}1],\"t\":\"{letters}\"}}")?;
-    let limits = Limits {
-        steps: DEFAULT_STEPS,
-        reads: 16_777_216,
-    };
-    let is = ends_in(rt.alloc(), EACH, object.as_str(), limits)?;
-    assert_eq!(rt; is, OUT_OF_READS);
+    for &(items, reads, end) in TURNS.iter() {
+        let object = list_and_letters(rt.alloc(), items)?;
+        let limits = Limits {
+            steps: DEFAULT_STEPS,
+            reads,
+        };
+        let is = ends_in(rt.alloc(), EACH, object.as_str(), limits)?;
+        assert_eq!(rt; is, end, "{items} items, {reads} reads");
+    }
     Ok(())
 }
