@@ -1,6 +1,7 @@
 """Gives a gatekeeper reviews that take long to decide or to read, and prints what each takes.
 
 usage: research/hostile [--own | --examples] [--keep FOLDER] [--program PROGRAM] [SHAPE..]
+       research/hostile --seeded COUNT [--first NUMBER] [--seed N] [--keep FOLDER] [--program PROGRAM]
 
 A shape is a loop whose calls of helpers read as much as they can, or a document that takes long to read; shapes.py in
 celbpf_research/hostile has a dozen: contains, equal, member, keys, put, join, less, ends, ints, towers, 'small maps',
@@ -13,6 +14,9 @@ steps, and 150 MB. For a loop that the limit of reads ends, ten times the limit 
 long; for the others ten times the bytes. It prints each shape under its own policy, and of the examples the costliest
 line of each shape. It ends with status 1 if one took more; with `--keep` such lines are written to a folder, with
 their policies. An interrupt ends it early. The examples are up to 3,500 lines, some minutes. It builds nothing.
+
+With --seeded it gives a gatekeeper so many reviews from a seed (1), from a number (0) on, whose reads are calculated. Each
+has to be decided with that limit of reads and refused by N7 with one less, within the same bounds. known.py has them.
 """
 
 import argparse
@@ -25,6 +29,7 @@ from typing import Any, Optional
 from celbpf_tools.entry import parser_of
 from celbpf_tools.home import built
 
+from ..hostile.known import Known, known
 from ..hostile.places import cases, lines
 from ..hostile.shapes import MOST, SHAPES, Shape
 from ..hostile.watched import OUT_OF_READS, Cost, Watched
@@ -45,6 +50,9 @@ def words() -> argparse.Namespace:
     parts = parser.add_mutually_exclusive_group()
     parts.add_argument("--own", action="store_true")
     parts.add_argument("--examples", action="store_true")
+    parts.add_argument("--seeded", type=int, metavar="COUNT")
+    parser.add_argument("--first", type=int, default=0, metavar="NUMBER")
+    parser.add_argument("--seed", type=int, default=1)
     return parser.parse_args()
 
 
@@ -104,6 +112,28 @@ class Trial:
         ends_so = cost.answer.startswith(OUT_OF_READS) == shape.is_limited
         self.judge(cost.is_within and ends_so and times <= MOST_TIMES, documents, line)
 
+    def known(self, number: int, case: Known) -> None:
+        """A review with the limit of reads that it needs, and with one less."""
+        documents = {"policy": json.dumps(case.policy).encode()}
+        cost = self.cost(documents, case.line, "--reads", str(case.reads))
+        endings = [cost.ending]
+        if case.reads:
+            endings.append(self.cost(documents, case.line, "--reads", str(case.reads - 1)).ending)
+        in_steps = case.may_end_in_steps and cost.ending == "N4"
+        is_exact = in_steps or (endings[0] in ("allowed", "denied") and endings[1:] in ([], ["N7"]))
+        is_good = is_exact and cost.is_within
+        self.judge(is_good, documents, case.line)
+        if not is_good:
+            told(f"{case.name} {number}", len(case.line), cost, f"; {case.reads:,} reads: {', then '.join(endings)}")
+        if case.name not in self.worst or cost.seconds > self.worst[case.name][2].seconds:
+            self.worst[case.name] = str(number), len(case.line), cost
+
+    def seeded(self, seed: int, numbers: range) -> None:
+        """Reviews from a seed, whose reads are calculated."""
+        for number in numbers:
+            self.known(number, known(seed, number))
+        self.tell_worst()
+
     def under(self, name: str, case: Any, review: dict[str, Any], shape: Shape) -> None:
         """A shape in the review of an example policy, one line after another."""
         documents = {kind: held for kind in NAMES if (held := getattr(case, kind)) is not None}
@@ -121,6 +151,10 @@ class Trial:
         for name, case, review in cases():
             for shape in shapes:
                 self.under(name, case, review, shape)
+        self.tell_worst()
+
+    def tell_worst(self) -> None:
+        """The costliest line of each shape."""
         for shape, (name, length, cost) in self.worst.items():
             told(f"{shape}, {name}", length, cost)
 
@@ -135,9 +169,11 @@ def main() -> int:
     with tempfile.TemporaryDirectory() as folder:
         trial = Trial(asked.program, Path(folder), asked.keep)
         try:
-            for shape in () if asked.examples else shapes:
+            if asked.seeded is not None:
+                trial.seeded(asked.seed, range(asked.first, asked.first + asked.seeded))
+            for shape in () if asked.examples or asked.seeded is not None else shapes:
                 trial.own(shape)
-            if not asked.own:
+            if not asked.own and asked.seeded is None:
                 trial.examples(shapes)
         except KeyboardInterrupt:
             pass

@@ -1,9 +1,10 @@
-"""The dozen shapes: their sizes, what their turns read, and where they are put."""
+"""The dozen shapes: their sizes, what their turns read, and where they are put; and what reviews from a seed read."""
 
 import json
 import unittest
 
 from ..hostile import loops
+from ..hostile.known import DOCUMENT_READS, READS, compared, known, looped
 from ..hostile.places import at, chosen, lines, places, put
 from ..hostile.shapes import MOST, SHAPES, short_keys, tower
 from ..hostile.watched import Cost
@@ -106,6 +107,32 @@ class Places(unittest.TestCase):
                 self.assertLessEqual(len(line), ROOM, shape.name)
                 self.assertGreater(len(line), ROOM // 3, shape.name)
                 self.assertEqual(json.loads(line)["request"]["uid"], "u")
+
+
+class KnownReads(unittest.TestCase):
+    def test_loops_by_hand(self) -> None:
+        # the key l among three, twice; in each turn the keys t and u, twice each, and the search
+        self.assertEqual(looped("contains", loops.contains(80), 3).reads, 2 + 3 * (2 + 2 + 89))
+        # the key l among four, three times; in each turn five keys of `object`, three times each, three searches in m, and
+        # the int 0
+        self.assertEqual(looped("keys", loops.keys(80), 2).reads, 3 + 2 * (15 + 120 + 1))
+
+    def test_documents_by_hand(self) -> None:
+        request = {"object": {"l": [1, "é", []]}, "oldObject": {"l": []}}
+        wanted = {"true": 0, "object.l.size() >= 0": 1, "object == oldObject": 0, "object != oldObject": 0}
+        # the key l, and the JSON texts 1, "é" and []
+        wanted["object.l.all(x, x == x)"] = 1 + 1 + 4 + 2
+        self.assertEqual({expression: reads(request) for expression, reads in DOCUMENT_READS.items()}, wanted)
+        self.assertEqual(compared({"object": {"a": 1}, "oldObject": {"b": 2}}), 7)
+
+    def test_reviews_are_within_the_bounds(self) -> None:
+        for number in range(4):
+            case = known(7, number)
+            self.assertLessEqual(len(case.line), MOST)
+            self.assertLessEqual(case.reads, READS)
+            self.assertEqual(case.line.count(b"\n"), 1)
+            self.assertEqual(json.loads(case.line)["request"]["uid"], "u")
+            self.assertEqual(case.policy["spec"]["validations"], [{"expression": case.expression}])
 
 
 class Costs(unittest.TestCase):
