@@ -6,7 +6,7 @@ use Rattle.helper_table.specs.Reads.{reads_of}
 use Rattle.helper_table.specs.Rows.{base, e_acute}
 use Rattle.value_store.specs.Placing.{first_values}
 use Rattle.value_store.specs.Value.{Value, null, int, text, list, map, no_items, item, no_entries, entry, ValueOrError, value}
-use Rattle.bpf_machine.specs.Reads.{limited_place, no_limit, reads_to}
+use Rattle.bpf_machine.specs.Reads.{limited_place, reads_to}
 use Rattle.bpf_machine.specs.State.{State, start_state}
 
 -- what a call reads among these values, with these constants
@@ -125,8 +125,7 @@ pub record SearchRunHolds : Type 0 where
   pub run_before_the_search : reads_to 10 search_start ≡ 3
   pub run_search : reads_to 11 search_start ≡ 1005
   -- a limit that holds the run before each call, and one that does not
-  pub held_before_the_field : limited_place 11 0 search_start ≡ 3
-  pub held_before_the_literal : limited_place 11 2 search_start ≡ 7
+  pub held_before_the_field : limited_place 4 0 search_start ≡ 3
+  pub held_before_the_literal : limited_place 8 2 search_start ≡ 7
   pub held_before_the_search : limited_place 11 1004 search_start ≡ 10
   pub held_nowhere : limited_place 11 1005 search_start ≡ 11
-  pub unlimited : limited_place 11 no_limit search_start ≡ 11
