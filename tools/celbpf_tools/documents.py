@@ -58,7 +58,7 @@ def json_fault(text: str) -> Optional[str]:
     try:
         json.loads(text)
     except json.JSONDecodeError as why:
-        return f"{why.msg[:1].lower()}{why.msg[1:]} at {place_of(text, why.pos)}"
+        return f"{why.msg[:1].lower()}{why.msg[1:].removesuffix(' at')} at {place_of(text, why.pos)}"
     except RecursionError:
         return "it is nested too deep"
     except ValueError:

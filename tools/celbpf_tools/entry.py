@@ -10,13 +10,10 @@ A script's status is what its command returns (`None` counts as 0). Beside these
 
 import argparse
 import os
-import re
 import sys
 import traceback
 from types import ModuleType
 from typing import Callable, NoReturn, Optional
-
-from .home import is_checkout
 
 FILE = 3
 INTERRUPTED = 130
@@ -34,27 +31,16 @@ class Stop(Exception):
         self.status = status
 
 
-def told_of(doc: Optional[str]) -> str:
-    """What a script says of itself, by the names that scripts are installed by."""
-    text = (doc or "").strip()
-    return text if is_checkout() else re.sub(r"\btools/", "celbpf-", text)
-
-
 def usage_of(doc: Optional[str]) -> str:
     """The usage in what a script says of itself."""
-    return told_of(doc).split("usage: ")[1].split("\n\n")[0]
+    return (doc or "").split("usage: ")[1].split("\n\n")[0]
 
 
 def parser_of(doc: Optional[str]) -> argparse.ArgumentParser:
     """A parser of words, whose help is the usage, what a script says of itself, and its options."""
     usage = usage_of(doc)
-    what = told_of(doc).replace(f"usage: {usage}", "").replace("\n\n\n\n", "\n\n").strip()
+    what = (doc or "").strip().replace(f"usage: {usage}", "").replace("\n\n\n\n", "\n\n").strip()
     return argparse.ArgumentParser(usage=usage, description=what, formatter_class=argparse.RawDescriptionHelpFormatter)
-
-
-def called(script: str) -> str:
-    """The name by which a script is called, in the repository or where the package is installed."""
-    return f"tools/{script}" if is_checkout() else f"celbpf-{script}"
 
 
 def told(error: OSError) -> str:
@@ -99,7 +85,7 @@ def run(name: str, main: Callable[[], Optional[int]]) -> NoReturn:
     sys.setrecursionlimit(DEEPEST)
     command = sys.modules[main.__module__]
     if sys.argv[1:] == ["--help"] and not has_parser(command):
-        print(told_of(command.__doc__))
+        print((command.__doc__ or "").strip())
         sys.exit(0)
     status = ended(name, main)
     try:

@@ -1,14 +1,12 @@
 """Where a policy is refused, and what its refusal means."""
 
-import json
 from dataclasses import dataclass
-from typing import Any, Iterator, Optional
+from typing import Any, Optional
 
 from . import policies
 from .keys import TRUE, Keys
 from .places import cause_of, of_function, smallest
 from .program import Program
-from .texts import on_one_line, pointed
 
 MEANINGS = {
     "K1": "the document is no JSON text",
@@ -46,7 +44,7 @@ MEANINGS = {
 
 @dataclass
 class Refused:
-    """Where a policy is refused: what is meant, and the piece of a part, or the key with what it has, or why none is found."""
+    """Where a policy is refused: what is meant, and the piece of a part, or the key with what it has."""
 
     meaning: str
     part: Optional[policies.Part] = None
@@ -54,18 +52,6 @@ class Refused:
     end: int = 0
     key: str = ""
     value: Any = None
-    note: str = ""
-
-    def lines(self) -> Iterator[str]:
-        """What is printed: the part with carets under its piece, or the key."""
-        yield self.meaning
-        if self.part:
-            yield f"{self.part.title}:"
-            yield pointed(self.part.text, self.begin, self.end)
-        elif self.key:
-            yield f"{self.key}: {on_one_line(shown(self.value))}"
-        elif self.note:
-            yield self.note
 
 
 def of_part(program: Program, policy: dict[str, Any], refusal: str) -> Refused:
@@ -89,7 +75,7 @@ def of_type(program: Program, policy: dict[str, Any], number: str) -> Refused:
     for part in policies.parts(policy):
         if cause_of(program.refusal(made_for(part))) == number:
             return whole_part(number, part)
-    return Refused(MEANINGS[number], note="no part alone is refused so")
+    return Refused(MEANINGS[number])
 
 
 def made_for(part: Any) -> dict[str, Any]:
@@ -112,7 +98,7 @@ def of_size(program: Program, policy: dict[str, Any], number: str) -> Refused:
         whole = policies.whole({**spec, "validations": spec["validations"] or [TRUE]})
         if cause_of(program.refusal(whole)) == number:
             return whole_part(number, part)
-    return Refused(MEANINGS[number], note="no part up to the end is refused so")
+    return Refused(MEANINGS[number])
 
 
 def add(spec: dict[str, Any], part: Any) -> None:
@@ -130,12 +116,8 @@ def of_key(program: Program, policy: dict[str, Any], number: str) -> Refused:
     """The key of the document that is refused alone."""
     found = Keys(program, number).of_policy(policy)
     if not found:
-        return Refused(MEANINGS[number], note="no key alone is refused so")
+        return Refused(MEANINGS[number])
     return Refused(MEANINGS[number], key=found[0], value=found[1])
-
-
-def shown(value: Any) -> str:
-    return value if isinstance(value, str) else json.dumps(value, ensure_ascii=False)
 
 
 FINDERS = {"K3": of_key, "K5": of_key, "K8": of_key, "K7": of_type, "K9": of_type, "G3": of_size, "G4": of_size}

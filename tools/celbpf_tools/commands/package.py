@@ -1,11 +1,10 @@
-"""Makes a Debian package and a tar archive of the built programs, the scripts for policies and their pages.
+"""Makes a Debian package and a tar archive of the built programs, `vapctl` and their pages.
 
 usage: tools/package [--programs FOLDER] [--library FILE] [--no-library] [--to FOLDER] [--tar]
 
-They are `celbpf_VERSION_ARCH.deb` and `.tar.xz` in the folder `dist`. Installed are celbpf, gatekeeper, the scripts as
-celbpf-why, celbpf-place, celbpf-reviews, celbpf-test, celbpf-as-reviews, celbpf-dap and celbpf-asm, a man
-page of each, completion for bash and zsh, the library for C, Go, Python and Rust, the pages for users, the examples and the
-licence.
+They are `celbpf_VERSION_ARCH.deb` and `.tar.xz` in the folder `dist`. Installed are celbpf, gatekeeper, vapctl, also as
+kubectl-vap, a man page of each, completion for bash and zsh, the library for C, Go, Python and Rust, the pages for users,
+the examples and the licence.
 FOLDER of `--programs` has the programs to pack, and `libcelbpf_c.a`; they are packed as they are. Without it `tools/build`
 proves and builds those of the repository first if they are not up to date, with the library. FILE is another library to
 pack; `--no-library` leaves it out. `--tar` makes the tar archive alone.

@@ -5,8 +5,8 @@ usage: tools/run-package [--programs FOLDER] [--library FILE] [--no-library] [--
 
 It makes the package by tools/package, twice, each time in a folder of its own, the second time with another umask, time
 zone and locale; both are to have the same bytes. In the fresh root nothing else is installed, so what the package
-depends on is taken from this machine. Run are the first example, the gatekeeper's example, each script, each man page,
-the completion, and programs in C, Go, Python and Rust; no page may name a file of the repository or have a link to
+depends on is taken from this machine. Run are the first example, the gatekeeper's example, each subcommand of
+vapctl, each man page, the completion, and programs in C, Go, Python and Rust; no page may name a file of the repository or have a link to
 nothing, and the version is to be that of `gatekeeper --version`. Then nothing of the package may be left. The tar
 archive is unpacked and run too. What is not on this machine, such as Go, is left out, and the last line says so.
 

@@ -28,9 +28,9 @@ from ..browsing.positions import keys_faults, positions_faults
 from ..entry import Stop, parser_of
 from ..home import EXAMPLES, TOOLS
 from ..slots.mapping import parts_of
+from ..vapctl.telling import OUTCOMES
 from ..viewing.checking import Evaluator, count, map_faults
 from ..viewing.page import Decision, page, shown_run
-from .why import OUTCOMES
 
 SIZES = {"wide": (1280, 900), "narrow": (420, 900)}
 SCHEMES = ("light", "dark")

@@ -2,11 +2,11 @@
 
 usage: tools/run-vapctl [--quick|PROGRAM GATEKEEPER] [TABLE..]
 
-The tables are the files of tools/data/run-vapctl, worked by hand, in the form of those of `tools/run-scripts`; `vapctl` is
-in the path there, and $DATA is the folder tools/data/vapctl. Each example's reviews are then checked as manifests, whose
-outcome is that of the response beside them; the findings of fifty files of manifests, and for some what does not match,
-are those of an evaluator written apart; a thousand Deployments are audited, whose numbers are counted here too; and each
-subcommand reads the same broken inputs, on which it ends with a status of its own and without a traceback.
+The tables are the files of tools/data/run-vapctl, worked by hand (`celbpf_tools/tests/vapctl_tables.py` has their lines).
+Each example's reviews are then checked as manifests, whose outcome is that of the response beside them; the findings of
+fifty files of manifests, and for some what does not match, are those of an evaluator written apart; a thousand
+Deployments are audited, whose numbers are counted here too; and each subcommand reads the same broken inputs, on which it
+ends with a status of its own and without a traceback.
 """
 
 import argparse
@@ -28,9 +28,9 @@ from ..entry import usage_of
 from ..home import DATA, EXAMPLES, ROOT
 from ..tests.vapctl_broken import INPUTS, commands
 from ..tests.vapctl_corpus import Corpus, Finding
+from ..tests.vapctl_tables import compared, tables_of
 from ..vapctl.commands import WHATS, module_of
 from ..vapctl.main import main as main_of_vapctl
-from .run_scripts import compared, tables_of
 
 TABLES = DATA / "run-vapctl"
 CORPUS = DATA / "vapctl"

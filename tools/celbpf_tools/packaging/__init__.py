@@ -1,6 +1,6 @@
-"""A package of the built programs, the scripts for policies, and their pages.
+"""A package of the built programs, `vapctl`, and their pages.
 
-    manual           man pages, of the repository's pages and of what scripts say of themselves
+    manual           man pages, of the repository's pages
     commands_manual  a man page of a program with subcommands, of its parser
     completion       completion for bash and zsh
     pages            the pages of the repository as they are installed

@@ -29,7 +29,7 @@ Suggests: bash-completion, zsh, man-db, gcc, pkg-config, golang, cargo
 Description: decides Kubernetes admission without a webhook
  Compiles ValidatingAdmissionPolicy documents to BPF programs, runs them on a BPF
  machine, answers reviews, and debugs a decision step by step. It has programs,
- scripts, and a library for C, Go, Python and Rust. README.md says what is proved.
+ vapctl, and a library for C, Go, Python and Rust. README.md says what is proved.
 """
 SHARED = "lib/libcelbpf.so.1"
 

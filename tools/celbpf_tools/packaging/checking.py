@@ -15,9 +15,6 @@ BASH = """source "$1/share/bash-completion/completions/celbpf"
 COMP_WORDS=(celbpf re) COMP_CWORD=1
 _celbpf celbpf
 echo "${COMPREPLY[*]}"
-COMP_WORDS=(celbpf-test --j) COMP_CWORD=1
-_celbpf celbpf-test
-echo "${COMPREPLY[*]}"
 COMP_WORDS=(vapctl c) COMP_CWORD=1
 _celbpf vapctl
 echo "${COMPREPLY[*]}"
@@ -33,13 +30,11 @@ file=$1/share/zsh/vendor-completions/_celbpf
 ask celbpf re
 ask celbpf review --p
 ask celbpf review p
-ask celbpf-place --
 ask vapctl state --
 """
 ZSH_SAYS = """compile review run-image asm list debug
 --policy --review --namespace --params --steps
 files
---program
 --help --from --to --context --kubeconfig --kubectl
 """
 PYTHON = """import sys
@@ -118,25 +113,13 @@ def dap_launch(policy: Path) -> str:
 
 
 def check_programs(checks: Checks, it: Installed) -> None:
-    """The programs and the scripts, on the examples."""
+    """The programs and `vapctl`, on the examples."""
     gate, program = it.examples / "gatekeeper", it.program
     checks.run([program, "review", "--policy", it.policy, "--review", it.review], 1, it.response)
     policies = [word for name in ("few", "even") for word in ("--policy", gate / "policies" / f"{name}.json")]
     lines, answers = (gate / "reviews.jsonl").read_text(), (gate / "answers.jsonl").read_text()
     checks.run([it.prefix / "bin" / "gatekeeper", *policies], 0, answers, lines)
-    checks.run([f"{program}-why", it.policy, it.review], 1, "denied\nvalidation 0: false\n    object.spec.replicas <= 3")
-    checks.run([f"{program}-why", it.policy, it.review, "--html", "why.html"], 1, "denied\nvalidation 0")
-    page = checks.folder / "why.html"
-    checks.tell("the page of celbpf-why", page.exists() and ">denied</h1>" in page.read_text(), "no page of a denial")
-    checks.run([f"{program}-place", it.policy], 0, "accepted\n")
-    checks.run([f"{program}-reviews", it.policy, it.review], 1, f"{it.review}: denied")
-    checks.run([f"{program}-test", it.replicas], 0, "TAP version 13\n1..3\nok 1")
-    checks.run([f"{program}-as-reviews", it.policy], 0, '{"apiVersion":"admission.k8s.io/v1"')
-    checks.run([f"{program}-dap"], 0, "Content-Length: ", dap_launch(it.policy))
-    checks.run([f"{program}-asm", "-"], 0, "mov64 r0, 1\nexit\n", "mov64 r0, 0x1 ; one\nexit\n")
     check_vapctl(checks, it)
-    # its name and its usage are those that it is installed by
-    checks.run([f"{program}-test", "--help"], 0, "usage: celbpf-test [--junit F]")
 
 
 def check_vapctl(checks: Checks, it: Installed) -> None:
@@ -149,11 +132,18 @@ def check_vapctl(checks: Checks, it: Installed) -> None:
     checks.run([vapctl, "lint", it.policy], 0, "1 policy: 1 accepted\n")
     checks.run([vapctl, "compile", it.policy, "-o", "replicas.img"], 0, "")
     checks.run([vapctl, "translate", it.policy], 0, '{\n  "apiVersion"')
-    checks.run([vapctl, "why", it.policy, it.review], 1, "denied\nvalidation 0: false")
+    checks.run([vapctl, "why", it.policy, it.review], 1, "denied\nvalidation 0: false\n    object.spec.replicas <= 3")
+    checks.run([vapctl, "why", it.policy, it.review, "--html", "why.html"], 1, "denied\nvalidation 0")
+    page = checks.folder / "why.html"
+    checks.tell("the page of why", page.exists() and ">denied</h1>" in page.read_text(), "no page of a denial")
     words = ["why", "--cluster", cluster / "state.json", "-n", "dev", cluster / "manifests.yaml", "--object", "orders"]
     checks.run([vapctl, *words], 1, "denied\n    databases")
     checks.run([vapctl, "test", it.replicas], 0, "TAP version 13\n1..3\nok 1")
+    checks.run([vapctl, "reviews", it.policy, it.review], 1, f"{it.review}:1: denied")
+    checks.run([vapctl, "as-reviews", it.policy], 0, '{"apiVersion":"admission.k8s.io/v1"')
+    checks.run([vapctl, "asm", "-"], 0, "mov64 r0, 1\nexit\n", "mov64 r0, 0x1 ; one\nexit\n")
     checks.run([vapctl, "debug", "--dap"], 0, "Content-Length: ", dap_launch(it.policy))
+    checks.run([vapctl, "test", "--help"], 0, "usage: vapctl test [-h]")
 
 
 def check_library(checks: Checks, it: Installed) -> Iterator[str]:
@@ -206,7 +196,7 @@ def check_manual(checks: Checks, it: Installed) -> Iterator[str]:
             name = page.name.removesuffix(".1.gz")
             is_right = ran.returncode == 0 and not ran.stderr and f"{name} - " in " ".join(ran.stdout.split())
             checks.tell(f"man {name}", is_right, f"{ran.stderr}[{ran.returncode}] {ran.stdout[:300]}")
-    checks.run(["bash", "-c", BASH, "bash", it.prefix], 0, "review\n--junit\ncheck compile\n--policy\n")
+    checks.run(["bash", "-c", BASH, "bash", it.prefix], 0, "review\ncheck compile\n--policy\n")
     if lacking := missing("zsh"):
         yield f"zsh {lacking}"
     else:

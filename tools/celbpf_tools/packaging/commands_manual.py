@@ -35,11 +35,12 @@ def items(parser: argparse.ArgumentParser) -> Iterator[str]:
         yield from (".TP", f"\\fB{escaped(words)}\\fR", inline(str(one.help or "")))
 
 
-def of_parser(name: str, parser: argparse.ArgumentParser, version: str) -> str:
-    """The man page of a program, with a section for each subcommand."""
+def of_parser(name: str, parser: argparse.ArgumentParser, version: str, more: str = "") -> str:
+    """The man page of a program, with a section for each subcommand, and what a page has more."""
     what = str(parser.description).rstrip(".")
     made = [*head(name, f"{what[:1].lower()}{what[1:]}", version), ".SH SYNOPSIS", escaped(synopsis(parser))]
     made += [".SH STATUS", *body(str(parser.epilog))]
     for word, command in commands_of(parser).items():
         made += [f".SH {escaped(word.upper())}", escaped(synopsis(command)), *body(f"\n{command.description}"), *items(command)]
+    made += body(more)
     return "\n".join(line for line in made if line) + "\n"

@@ -1,13 +1,11 @@
-"""Completion of the programs and the scripts, for bash and zsh."""
+"""Completion of the programs, for bash and zsh."""
 
-import importlib
 import re
 from typing import Any
 
 from ..home import DATA
 from ..vapctl.main import parser
 from .commands_manual import commands_of, options_of
-from .pages import SCRIPTS
 
 # the words that a command of celbpf takes; what is no option is a file
 COMMANDS = {
@@ -15,14 +13,14 @@ COMMANDS = {
     "list": "", "debug": "--review --namespace --params",
 }
 OPTION = re.compile(r"(?<![\w-])--[a-z][a-z-]*")
-NAMES = ["celbpf", "gatekeeper", "vapctl", "kubectl-vap", *(f"celbpf-{name}" for name in SCRIPTS)]
+NAMES = ["celbpf", "gatekeeper", "vapctl", "kubectl-vap"]
 WORDS = """_celbpf_words() {
     case $1 in
 %s
     esac
 }
 """
-BASH = """# bash completion of celbpf, gatekeeper and the scripts beside them
+BASH = """# bash completion of celbpf, gatekeeper and vapctl
 
 %s
 _celbpf() {
@@ -50,7 +48,7 @@ _celbpf() {
 complete -F _celbpf %s
 """
 ZSH = """#compdef %s
-# zsh completion of celbpf, gatekeeper and the scripts beside them
+# zsh completion of celbpf, gatekeeper and vapctl
 
 %s
 _celbpf() {
@@ -78,12 +76,6 @@ def of_gatekeeper() -> str:
     return " ".join(dict.fromkeys(OPTION.findall((DATA / "run-commands" / "gatekeeper.help").read_text())))
 
 
-def of_script(name: str) -> str:
-    """The options in the usage of a script."""
-    doc = importlib.import_module(f"celbpf_tools.commands.{name.replace('-', '_')}").__doc__ or ""
-    return " ".join(dict.fromkeys(OPTION.findall(doc.split("usage: ")[1].split("\n\n")[0])))
-
-
 def of_vapctl(name: str) -> dict[str, Any]:
     """The subcommands of `vapctl` by one of its names, and the options of each."""
     commands = commands_of(parser(name))
@@ -91,10 +83,9 @@ def of_vapctl(name: str) -> dict[str, Any]:
 
 
 def words() -> str:
-    """The function that prints the commands of a program, or the options of a command, a program or a script."""
+    """The function that prints the commands of a program, or the options of a command or a program."""
     options = {"celbpf": " ".join(COMMANDS), **{f"celbpf {name}": found for name, found in COMMANDS.items()}}
     options.update({"gatekeeper": of_gatekeeper(), **of_vapctl("vapctl"), **of_vapctl("kubectl-vap")})
-    options.update({f"celbpf-{name}": of_script(name) for name in SCRIPTS})
     names = {name: f"'{name}'" if " " in name else name for name in options}
     return WORDS % "\n".join(f"    {names[name]}) echo '{found}' ;;" for name, found in options.items())
 

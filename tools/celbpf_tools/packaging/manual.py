@@ -1,4 +1,4 @@
-"""Man pages, of the repository's pages and of what scripts say of themselves.
+"""Man pages, of the repository's pages.
 
 A page of the repository is read as far as these pages go: headings, paragraphs, lists, indented and fenced blocks, and
 tables, whose rows become items that begin with their first cell.
@@ -111,19 +111,6 @@ def body(text: str) -> Iterator[str]:
 def of_page(name: str, what: str, text: str, version: str) -> str:
     """The man page of a program, of a page of the repository."""
     made = [*head(name, what, version), ".SH DESCRIPTION", *body(text)]
-    return "\n".join(line for line in made if line) + "\n"
-
-
-def of_script(name: str, doc: str, version: str, more: str = "") -> str:
-    """The man page of a script, of its docstring: a sentence, the usage, and what follows."""
-    what, rest = doc.strip().split("\n\n", 1)
-    usage, _, rest = rest.partition("\n\n")
-    synopsis = usage.removeprefix("usage: ").strip()
-    sentence = " ".join(what.split())
-    made = [*head(name, f"{sentence[:1].lower()}{sentence[1:]}".rstrip("."), version), ".SH SYNOPSIS", ".nf"]
-    made += [*(escaped(line.strip()) for line in synopsis.split("\n")), ".fi", ".SH DESCRIPTION", *body(rest)]
-    if more:
-        made += body(more)
     return "\n".join(line for line in made if line) + "\n"
 
 

@@ -6,26 +6,22 @@ from typing import Any, Iterator
 
 from ..home import ROOT
 
-# the scripts for policies, which need nothing of the repository
-SCRIPTS = ("why", "place", "reviews", "test", "as-reviews", "dap", "asm")
 PAGES = (
     "ASSEMBLER", "CEL", "CLUSTER", "CLUSTERS", "CODE", "COMMANDS", "DEBUGGER", "EMBEDDING", "GATEKEEPER", "GLOSSARY", "HELPERS",
-    "INSTALL", "LANGUAGE", "MACHINE", "PERFORMANCE", "PIPELINES", "POLICIES", "SCRIPTS", "TUTORIAL", "VALUES", "VAPCTL", "WHY",
+    "INSTALL", "LANGUAGE", "MACHINE", "PERFORMANCE", "PIPELINES", "POLICIES", "TUTORIAL", "VALUES", "VAPCTL", "WHY",
 )
 EXAMPLES = sorted(str(path.relative_to(ROOT)) for path in ROOT.glob("examples/**/README.md"))
 INSTALLED = ("README.md", "CHANGELOG.md", *(f"docs/{page}.md" for page in PAGES), *EXAMPLES)
 HOME = "/usr/share/doc/celbpf"
 # sections of pages that are for those who have the repository
 LEFT_OUT = {
-    "docs/SCRIPTS.md": ("For the repository", "When `./celbpf` and `./gatekeeper` build"),
     "docs/EMBEDDING.md": ("Install",),
     "docs/INSTALL.md": ("Make the package",),
 }
 # what a paragraph has that says how the programs or the package are made
-BUILDING = re.compile(r"^In a \[package\]|`rt\b|^    rt\b|^passes all proofs\b|\btools/(?:quick|build)\b|\bcrates/\w+/out\b|`crates\.txt`")
+BUILDING = re.compile(r"`rt\b|^    rt\b|^passes all proofs\b|\btools/(?:quick|build)\b|\bcrates/\w+/out\b|`crates\.txt`")
 LINK = re.compile(r"\[([^\]]*)\]\(([^)#\s]+)(#[^)\s]*)?\)")
 NAMES = [
-    (re.compile(r"(?<![\w/.])tools/(" + "|".join(SCRIPTS) + r")\b"), r"celbpf-\1"),
     (re.compile(r"`(?:tools|research)/([^`]+)`"), r"`\1` of the repository"),
     (re.compile(r"(?<![\w/.])tools/(\w)"), r"\1"),
     (re.compile(r"(?<![\w/.])\./(celbpf|gatekeeper|vapctl)\b"), r"\1"),
@@ -43,7 +39,7 @@ def pictures() -> list[Any]:
 
 
 def renamed(text: str) -> str:
-    """A text with the installed names of scripts, programs and examples."""
+    """A text with the installed names of programs and examples."""
     for pattern, by in NAMES:
         text = pattern.sub(by, text)
     return text

@@ -1,7 +1,6 @@
 """The files of a package, in a folder that becomes the root or a prefix."""
 
 import gzip
-import importlib
 import shutil
 import tempfile
 from pathlib import Path
@@ -16,10 +15,8 @@ from . import manual, pages
 from .commands_manual import of_parser
 from .completion import NAMES, bash, zsh
 
-# the scripts for policies, which need nothing of the repository
-SCRIPTS = pages.SCRIPTS
-# the packages of Python that these need
-MODULES = ("asking", "assembling", "testing", "evaluator", "manifests", "slots", "viewing", "dap", "vapctl", "commands")
+# the packages of Python that `vapctl` needs, which need nothing of the repository
+MODULES = ("asking", "assembling", "testing", "evaluator", "manifests", "slots", "viewing", "dap", "vapctl")
 ENTRY = '''#!/usr/bin/env python3
 """{what}"""
 
@@ -29,8 +26,8 @@ from pathlib import Path
 sys.dont_write_bytecode = True
 sys.path.insert(0, str(Path(__file__).resolve().parent.parent / "lib" / "celbpf"))
 
-from celbpf_tools.{module} import main
 from celbpf_tools.entry import run
+from celbpf_tools.vapctl.main import main
 
 run("{name}", main)
 '''
@@ -62,34 +59,19 @@ def put_programs(prefix: Path, programs: dict[str, Any]) -> None:
         (prefix / "bin" / name).chmod(0o755)
 
 
-def module_of(name: str) -> str:
-    """The module of a script's command."""
-    return name.replace("-", "_")
-
-
-def doc_of(name: str) -> str:
-    """What a script says of itself, by its installed name."""
-    return pages.renamed(importlib.import_module(f"celbpf_tools.commands.{module_of(name)}").__doc__ or "")
-
-
-def put_scripts(prefix: Path) -> None:
+def put_modules(prefix: Path) -> None:
+    """The modules of Python that `vapctl` needs."""
     package = prefix / "lib" / "celbpf" / "celbpf_tools"
-    for module in MODULES[:-1]:
+    for module in MODULES:
         copied(PACKAGE / module, package / module)
-    for file in ("__init__.py", "home.py", "entry.py", "documents.py", "commands/__init__.py"):
+    for file in ("__init__.py", "home.py", "entry.py", "documents.py"):
         copied(PACKAGE / file, package / file)
-    for name in SCRIPTS:
-        module = module_of(name)
-        copied(PACKAGE / "commands" / f"{module}.py", package / "commands" / f"{module}.py")
-        what = doc_of(name).split("\n\n")[0]
-        entry = ENTRY.format(name=f"celbpf-{name}", module=f"commands.{module}", what=what)
-        written(prefix / "bin" / f"celbpf-{name}", entry, 0o755)
 
 
 def put_vapctl(prefix: Path, version: str) -> None:
     """The command `vapctl`, also as a plugin of `kubectl`, and the version that it prints."""
     for name in VAPCTL:
-        written(prefix / "bin" / name, ENTRY.format(name=name, module="vapctl.main", what=DESCRIPTION), 0o755)
+        written(prefix / "bin" / name, ENTRY.format(name=name, what=DESCRIPTION), 0o755)
     written(prefix / "lib" / "celbpf" / "celbpf_tools" / "version", f"{version}\n")
 
 
@@ -105,11 +87,8 @@ def put_pages(prefix: Path, version: str) -> None:
     """Man pages, compressed as Debian has them."""
     found = {name: manual.of_page(name, what, pages.installed(f"docs/{page}"), version)
              for name, (what, page) in PROGRAMS.items()}
-    tests = manual.section(pages.installed("docs/SCRIPTS.md"), "Tests of policies")
-    for name in SCRIPTS:
-        more = tests if name == "test" else ""
-        found[f"celbpf-{name}"] = manual.of_script(f"celbpf-{name}", doc_of(name), version, more)
-    found.update({name: of_parser(name, parser(name), version) for name in VAPCTL})
+    tests = manual.section(pages.installed("docs/VAPCTL.md"), "Tests of policies")
+    found.update({name: of_parser(name, parser(name), version, tests) for name in VAPCTL})
     folder = prefix / "share" / "man" / "man1"
     folder.mkdir(parents=True)
     for name, text in found.items():
@@ -138,7 +117,7 @@ def put_completion(prefix: Path) -> None:
 def plant(prefix: Path, programs: dict[str, Any], library: Optional[Path], version: str) -> None:
     """Puts all files of the package below a prefix, such as /usr; without a library that is left out."""
     put_programs(prefix, programs)
-    put_scripts(prefix)
+    put_modules(prefix)
     put_vapctl(prefix, version)
     put_pages(prefix, version)
     put_documents(prefix)

@@ -6,9 +6,7 @@ import subprocess
 import unittest
 from pathlib import Path
 from typing import Any, Callable
-from unittest.mock import patch
 
-from .. import entry
 from ..entry import CLOSED, INTERRUPTED, Stop, ended, parser_of
 from ..home import TOOLS
 
@@ -62,12 +60,6 @@ class Helps(unittest.TestCase):
         self.assertEqual(usage, "usage: tools/count FILE\n       tools/count --all")
         self.assertEqual((what, options.split("\n")[0]), ("Counts words.", "`tools/other` shows them."))
         self.assertIn("--all       count all", options)
-
-    def test_installed_names(self) -> None:
-        with patch.object(entry, "is_checkout", lambda: False):
-            text = parser_of(DOC).format_help()
-        self.assertIn("usage: celbpf-count FILE\n       celbpf-count --all\n", text)
-        self.assertIn("`celbpf-other`", text)
 
     def test_each_script_tells(self) -> None:
         texts = (path for path in Path(TOOLS).iterdir() if path.is_file() and path.name != "launch")

@@ -9,10 +9,9 @@ from typing import Any
 from unittest import mock
 
 from .. import documents
-from ..commands import as_reviews
 from ..entry import ended
 from ..manifests.kinds import Resources, built_in
-from ..manifests.objects import NoObject, flattened
+from ..vapctl.main import main
 from .test_documents import Files
 
 NODE = '{"apiVersion": "v1", "kind": "Node", "metadata": {"name": "one", "namespace": "x"}}'
@@ -49,14 +48,14 @@ items:
 
 
 class Ran(Files):
-    """Tests that run the script."""
+    """Tests that run `vapctl as-reviews`."""
 
     def ran(self, *words: object) -> tuple[Any, ...]:
         """Its status and both outputs."""
         said, errors = io.StringIO(), io.StringIO()
-        with mock.patch.object(sys, "argv", ["as-reviews", *map(str, words)]):
+        with mock.patch.object(sys, "argv", ["vapctl", "as-reviews", *map(str, words)]):
             with contextlib.redirect_stdout(said), contextlib.redirect_stderr(errors):
-                return ended("as-reviews", as_reviews.main), said.getvalue(), errors.getvalue().replace(f"{self.folder}/", "")
+                return ended("vapctl", main), said.getvalue(), errors.getvalue().replace(f"{self.folder}/", "")
 
     def requests(self, *words: object) -> list[Any]:
         status, said, errors = self.ran(*words)
@@ -140,45 +139,53 @@ class Making(Ran):
 class Refusing(Ran):
     def test_groups_without_a_user_and_names_without_a_letter(self) -> None:
         node = self.file("node.json", NODE)
-        for words in (["--group", "dev"], ["--user", ""], ["--user", "ann", "--group", ""]):
-            with self.subTest(words), self.assertRaises(SystemExit) as ends:
-                self.ran(*words, node)
-            self.assertEqual(ends.exception.code, 2)
+        for words, told in (
+            (["--group", "dev"], "--group needs a --user"), (["--user", ""], "a user or a group has no name"),
+            (["--user", "ann", "--group", ""], "a user or a group has no name"), (["-n", ""], "the namespace of -n has no name"),
+        ):
+            with self.subTest(words):
+                self.assertEqual(self.ran(*words, node), (2, "", f"vapctl: {told}\n"))
 
     def test_unknown_kinds(self) -> None:
         team, node = self.file("team.json", TEAM % "v1alpha1"), self.file("node.json", NODE)
         state = self.file("state.json", DEFINITION)
-        said = "as-reviews: unknown kind x.io/v1alpha1 Team"
-        self.assertEqual(self.ran("--cluster", state, node, team), (
-            1, "", f"{said}; --cluster takes CustomResourceDefinitions, --skip-unknown leaves it out\n"))
+        status, lines, errors = self.ran("--cluster", state, node, team)
+        self.assertEqual((status, json.loads(lines)["request"]["uid"], errors), (3, "1", (
+            "vapctl: team.json:1: Team shop: the kind x.io/v1alpha1 Team is not known: its CustomResourceDefinition is not among "
+            "the inputs; --skip-unknown leaves it out\n")))
         status, lines, errors = self.ran("--cluster", state, "--skip-unknown", team, node)
-        self.assertEqual((status, errors, json.loads(lines)["request"]["uid"]), (0, f"{said}\n", "1"))
+        self.assertEqual((status, errors, json.loads(lines)["request"]["uid"]), (0, "", "1"))
 
     def test_documents_that_are_no_objects(self) -> None:
         for text, why in [
-            ("[]", "a.json: document 0 is not an object"),
-            ('{"apiVersion": "v1"}', "a.json: document 0 has no kind"),
-            ('{"apiVersion": "v1", "kind": "Pod"}', "a.json: document 0 (Pod) has no metadata"),
-            ('{"apiVersion": "v1", "kind": "List", "items": [1]}', "a.json: document 0, item 0 is not an object"),
+            ("[]", "a.json:1: it is not an object"),
+            ('{"apiVersion": "v1"}', "a.json:1: the object has no kind"),
+            ('{"apiVersion": "v1", "kind": "Pod"}', "a.json:1: Pod: the object has no metadata"),
+            ('{"apiVersion": "v1", "kind": "List", "items": [1]}', "a.json:1: it is not an object"),
         ]:
             with self.subTest(text):
-                self.assertEqual(self.ran(self.file("a.json", text)), (1, "", f"as-reviews: {why}\n"))
+                self.assertEqual(self.ran(self.file("a.json", text)), (3, "", f"vapctl: {why}\n"))
+
+    def test_no_object(self) -> None:
+        empty = self.file("a.json", '{"apiVersion": "v1", "kind": "List", "items": []}')
+        self.assertEqual(self.ran(empty), (3, "", "vapctl: there is no object; with --allow-empty the status is 0\n"))
+        self.assertEqual(self.ran(empty, "--allow-empty"), (0, "", ""))
 
     def test_what_cannot_be_written_or_read(self) -> None:
         web = self.file("web.json", WEB % ("", 3))
         old = self.file("old.json", (WEB % ("", 1)).replace("apps/v1", "apps/v1beta1"))
         # apps/v1beta1 is not known, so it is unknown before anything is compared
-        self.assertEqual(self.ran("--old", old, web)[0], 1)
+        self.assertEqual(self.ran("--old", old, web)[:2], (3, ""))
         nan = self.file("nan.json", '{"apiVersion": "v1", "kind": "Node", "metadata": {"name": "one"}, "a": NaN}')
-        self.assertEqual(self.ran(nan)[:2], (1, ""))
-        self.assertEqual(self.ran(self.folder / "none.json"), (3, "", "as-reviews: none.json: No such file or directory\n"))
+        self.assertEqual(self.ran(nan), (3, "", "vapctl: nan.json: NaN is no JSON\n"))
+        self.assertEqual(self.ran(self.folder / "none.json"), (3, "", "vapctl: none.json: No such file or directory\n"))
 
     def test_an_old_object_of_another_version(self) -> None:
         scaler = '{"apiVersion": "autoscaling/%s", "kind": "HorizontalPodAutoscaler", "metadata": {"name": "web"}}'
         old, new = self.file("old.json", scaler % "v1"), self.file("new.json", scaler % "v2")
-        self.assertEqual(self.ran("--old", old, new), (1, "", (
-            "as-reviews: HorizontalPodAutoscaler web was autoscaling/v1 and is autoscaling/v2: "
-            "an API server converts it, this script cannot\n")))
+        self.assertEqual(self.ran("--old", old, new), (3, "", (
+            "vapctl: new.json:1: HorizontalPodAutoscaler default/web: HorizontalPodAutoscaler web was autoscaling/v1 and is "
+            "autoscaling/v2: an API server converts it\n")))
 
 
 class Tables(unittest.TestCase):
@@ -198,12 +205,3 @@ class Tables(unittest.TestCase):
                 found = resources.of({"apiVersion": version, "kind": kind})
                 self.assertEqual(found and (found.plural, found.namespaced), (plural, namespaced))
         self.assertIsNone(resources.of({"apiVersion": "extensions/v1beta1", "kind": "Deployment"}))
-
-    def test_lists_of_one_kind(self) -> None:
-        item = {"metadata": {"name": "one"}}
-        typed = {"apiVersion": "v1", "kind": "PodList", "items": [item]}
-        self.assertEqual(list(flattened(typed, "a")), [{"apiVersion": "v1", "kind": "Pod", **item}])
-        # a kind that ends so, without items, is an object
-        self.assertEqual(len(list(flattened({"apiVersion": "x.io/v1", "kind": "AllowList", "metadata": {}}, "a"))), 1)
-        with self.assertRaises(NoObject):
-            list(flattened({"apiVersion": "v1", "kind": "List", "items": [item]}, "a"))

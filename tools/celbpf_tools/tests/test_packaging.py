@@ -1,4 +1,4 @@
-"""Man pages of pages and docstrings, and what a package says of itself."""
+"""Man pages of pages and of vapctl, and what a package says of itself."""
 
 import re
 import subprocess
@@ -10,10 +10,13 @@ from ..entry import Stop
 from ..home import ROOT, is_checkout
 from ..packaging import archives, manual
 from ..packaging.checking import text_faults
+from ..packaging.commands_manual import of_parser
 from ..packaging.completion import COMMANDS, bash, zsh
+from ..packaging.manual import escaped
 from ..packaging.pages import linked, renamed, without_sections
 from ..packaging.rooted import contents
-from ..packaging.tree import doc_of
+from ..vapctl.commands import WHATS
+from ..vapctl.main import parser
 
 PAGE = """# Title
 
@@ -44,21 +47,24 @@ class Manual(unittest.TestCase):
             ".IP \\(bu 2", "an item that goes on", ".PP", ".RS 4", ".nf", "a block", "\\&.dot", ".fi", ".RE", ".PP", "The end.",
         ])
 
-    def test_a_script(self) -> None:
-        doc = "Says `it`.\n\nusage: tools/why A\n       tools/why B\n\nMore of it.\n"
-        lines = manual.of_script("celbpf-why", doc, "1").splitlines()
-        self.assertIn("celbpf\\-why \\- says \\(gait\\(ga", lines)
-        self.assertEqual(lines[lines.index(".SH SYNOPSIS") + 1 :][:4], [".nf", "tools/why A", "tools/why B", ".fi"])
+    def test_a_program_with_subcommands(self) -> None:
+        lines = of_parser("vapctl", parser("vapctl"), "1", "## Tests\n\nMore of it.").splitlines()
+        self.assertIn("vapctl \\- checks, tests and explains ValidatingAdmissionPolicies without a cluster", lines)
+        heads = [line.removeprefix(".SH ") for line in lines if line.startswith(".SH ")]
+        self.assertEqual(heads, ["NAME", "SYNOPSIS", "STATUS", *(escaped(name.upper()) for name in WHATS), "TESTS"])
+        self.assertEqual(lines[-2:], [".PP", "More of it."])
+        at = lines.index(".SH LINT")
+        option = lines.index("\\fB\\-o FORM[=FILE], \\-\\-output FORM[=FILE]\\fR", at)
+        self.assertTrue(lines[option + 1].startswith("the form of the report"))
 
     def test_names_as_installed(self) -> None:
         for text, named in [
-            ("`./celbpf a`", "`celbpf a`"), ("tools/why <examples/b", "celbpf-why </usr/share/doc/celbpf/examples/b"),
+            ("`./celbpf a`", "`celbpf a`"), ("./vapctl why <examples/b", "vapctl why </usr/share/doc/celbpf/examples/b"),
             ("`tools/measure 1` takes", "`measure 1` of the repository takes"), ("cd ../examples", "cd ../examples"),
             ("in PREFIX/share/celbpf", "in /usr/share/celbpf"),
         ]:
             with self.subTest(text):
                 self.assertEqual(renamed(text), named)
-        self.assertIn("usage: celbpf-why POLICY REVIEW", doc_of("why"))
 
 
 class Package(unittest.TestCase):
@@ -88,10 +94,11 @@ class Package(unittest.TestCase):
     def test_completion(self) -> None:
         ran = subprocess.run(["bash", "-n"], input=bash(), text=True, capture_output=True, check=False)
         self.assertEqual((ran.returncode, ran.stderr), (0, ""))
-        self.assertTrue(zsh().startswith("#compdef celbpf gatekeeper vapctl kubectl-vap celbpf-why "))
+        self.assertTrue(zsh().startswith("#compdef celbpf gatekeeper vapctl kubectl-vap\n"))
         for text in (bash(), zsh()):
-            self.assertIn("celbpf-as-reviews) echo '--cluster --old --namespace --user --group --skip-unknown'", text)
-            self.assertIn("    vapctl) echo 'check audit state test why debug lint compile translate' ;;", text)
+            words = "--help --cluster --old --namespace --user --group --operation --skip-unknown --allow-empty"
+            self.assertIn(f"'vapctl as-reviews') echo '{words}'", text)
+            self.assertIn("    vapctl) echo 'check audit state test reviews why debug lint compile translate as-reviews asm' ;;", text)
             self.assertIn("'kubectl-vap state') echo '--help --from --to --context --kubeconfig --kubectl' ;;", text)
             self.assertRegex(text, "gatekeeper\\) echo '--policy .*--cluster --partial --leave-messages --translate --help --version'")
 

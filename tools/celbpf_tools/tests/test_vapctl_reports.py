@@ -15,6 +15,7 @@ from .. import documents
 from ..home import DATA
 from ..vapctl.inputs import Place, Thing, Trouble
 from ..vapctl.reports import forms, github, jsons, junit, policyreport, sarif, table
+from ..vapctl.reports.words import FormWord
 from ..vapctl.results import ALLOWED, AUDIT, DENIED, DENY, ERROR, UNDECIDED, WARN, Finding, Report, Result
 from .vapctl_crds import object_faults
 
@@ -154,7 +155,7 @@ class Forms(unittest.TestCase):
             ])
 
     def test_words(self) -> None:
-        self.assertEqual(forms.form("junit=a=b.xml"), ("junit", "a=b.xml"))
+        self.assertEqual(FormWord(forms.NAMES)("junit=a=b.xml"), ("junit", "a=b.xml"))
         for text in ("xml", "json=", "", "Table"):
             with self.assertRaises(argparse.ArgumentTypeError):
-                forms.form(text)
+                FormWord(forms.NAMES)(text)

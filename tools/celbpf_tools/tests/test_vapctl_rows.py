@@ -8,31 +8,32 @@ from collections.abc import Iterator
 from ..home import DATA
 from ..packaging.commands_manual import commands_of
 from ..vapctl.main import parser
-from ..vapctl.reports import forms
+from ..vapctl.reports.words import FormWord
 
 # a run of a subcommand, up to what ends its words
-RUN = re.compile(r"vapctl ([a-z]+)\b([^|;&)\n]*)")
+RUN = re.compile(r"vapctl ([a-z]+(?:-[a-z]+)*)\b([^|;&)\n]*)")
 
 
 def runs() -> Iterator[tuple[str, list[str]]]:
     """The subcommand and the other words of each run."""
     for table in sorted((DATA / "run-vapctl").iterdir()):
         for line in table.read_text(encoding="utf-8").splitlines():
-            for found in RUN.finditer(line) if line.startswith("% ") else ():
+            asked = line.replace("$ ", "vapctl ", 1) if line.startswith("$ ") else line if line.startswith("% ") else ""
+            for found in RUN.finditer(asked):
                 yield found[1], re.sub(r"[\"']", "", found[2]).split()
 
 
 def words_of(action: argparse.Action) -> Iterator[str]:
     """An option, with each of its choices if it has some."""
     name = next((one for one in action.option_strings if one.startswith("--")), action.option_strings[0])
-    choices = forms.NAMES if action.type is forms.form else action.choices
+    choices = action.type.names if isinstance(action.type, FormWord) else action.choices
     yield from (f"{name} {one}" for one in choices) if choices else [name]
 
 
 def used(words: list[str], action: argparse.Action) -> Iterator[str]:
     """The option with its choice, for each time that it is among the words."""
     name = next((one for one in action.option_strings if one.startswith("--")), action.option_strings[0])
-    has_choices = bool(action.choices) or action.type is forms.form
+    has_choices = bool(action.choices) or isinstance(action.type, FormWord)
     for place, word in enumerate(words):
         given, _, value = word.partition("=") if word.startswith("--") else (word, "", "")
         if given in action.option_strings:

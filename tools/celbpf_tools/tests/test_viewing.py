@@ -7,9 +7,9 @@ from typing import Any
 
 from ..asking.policies import Part
 from ..browsing.websocket import frame
-from ..commands.why import files
 from ..slots.layout import program_of
 from ..slots.mapping import SlotMap
+from ..vapctl.telling import files
 from ..viewing import run as run_data
 from ..viewing.deciding import deciding, origins, why_error
 from ..viewing.evaluations import Evaluation, Turn, evaluated

@@ -15,6 +15,7 @@ from .deciding import Deciding
 from .gate import Gate
 from .inputs import Inputs, Place, Thing, Trouble
 from .reports.texts import on_line
+from .reports.words import refuse_twice
 from .requests import Asked, NoReview, Reviews, UnknownKind
 from .results import ERROR, UNDECIDED, Finding, Report, Result, plural
 from .statuses import REFUSED, WORDS
@@ -250,7 +251,5 @@ def refuse_words(given: argparse.Namespace) -> None:
         raise Stop("--cluster or --policy is needed, which names the policies", WORDS)
     if given.params and given.cluster:
         raise Stop("--params goes with --policy: the state of --cluster has its params", WORDS)
-    files = [file for _, file in given.output if file]
-    if len(set(files)) < len(files):
-        raise Stop("two reports go to one file", WORDS)
+    refuse_twice(given.output)
     refuse_user(given)

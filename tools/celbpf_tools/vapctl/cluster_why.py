@@ -11,8 +11,7 @@ from typing import Any, Optional
 from ..asking import policies
 from ..asking.program import NotAnswered, Program
 from ..asking.translating import Translating
-from ..commands import why
-from . import matching
+from . import matching, telling
 from .cluster import policy_of, spec_of
 from .deciding import Deciding
 from .inputs import Thing
@@ -199,6 +198,6 @@ def told(program: Program, file: str) -> tuple[str, list[str]]:
     """The outcome of an evaluation, and its parts with their values."""
     said = io.StringIO()
     with contextlib.redirect_stdout(said):
-        why.tell(program, policies.read(file), program.verdict(file))
+        telling.tell(program, policies.read(file), program.verdict(file))
     outcome, *lines = said.getvalue().splitlines()
     return outcome, lines

@@ -9,7 +9,7 @@ import sys
 from dataclasses import dataclass
 from json import JSONDecodeError
 from pathlib import Path
-from typing import Any, Iterable, Iterator
+from typing import Any, Callable, Iterable, Iterator
 
 from . import yaml_texts
 from .json_texts import documents_of, looks_like_json, place_of
@@ -97,6 +97,8 @@ class Inputs:
     def __init__(self, keeps_texts: bool = False) -> None:
         self.troubles: list[Trouble] = []
         self.has_stdin = False
+        # which documents are taken of the files of a folder
+        self.is_taken: Callable[[Any], bool] = names_kind
         # the text of each file, if they are kept
         self.keeps_texts = keeps_texts
         self.texts: dict[str, str] = {}
@@ -146,7 +148,7 @@ class Inputs:
         found: list[Thing] = []
         try:
             for document in self.documents(name, text):
-                if not is_of_folder or names_kind(document.value):
+                if not is_of_folder or self.is_taken(document.value):
                     found += self.of_document(name, document)
         except Unread as why:
             self.trouble(name, why.line, why.why)
@@ -180,7 +182,7 @@ class Inputs:
             yield from list(documents_of(text))
         except JSONDecodeError as why:
             line, column = place_of(text, why.pos)
-            told = f"{why.msg[:1].lower()}{why.msg[1:]} at column {column}"
+            told = f"{why.msg[:1].lower()}{why.msg[1:].removesuffix(' at')} at column {column}"
             yield from self.yaml_documents(name, text, Unread(told, line))
         except ValueError as why:
             told = "a number has more than 4,300 digits" if "digits" in str(why) else str(why)

@@ -74,7 +74,7 @@ class Fault:
 
     def lines(self) -> Iterator[str]:
         """What is printed: the place and what is meant, and the text of the part with carets."""
-        yield on_line(f"{self.place}: {self.policy.name}: {self.message}")
+        yield on_line(": ".join(filter(None, (self.place, self.policy.name, self.message))))
         if self.refused.part:
             yield pointed(self.refused.part.text, self.refused.begin, self.refused.end)
         if self.hint:

@@ -1,11 +1,18 @@
 """Where a text of a document is in its file, by the line and the column."""
 
+import re
 from dataclasses import dataclass
 from typing import Any, Optional, Union
 
 from .. import documents
 from . import yaml_texts
 
+QUOTES = ("'", '"')
+# how a character is written in a quoted text
+ESCAPES = {
+    "'": re.compile(r"''|[^']"),
+    '"': re.compile(r'\\u[dD][89abAB]..\\u[dD][c-fC-F]..|\\x..|\\u....|\\U........|\\.|[^"\\]'),
+}
 # keys of maps, and places in lists
 Path = tuple[Union[str, int], ...]
 
@@ -48,9 +55,35 @@ class Marks:
             row = text.count("\n", 0, offset)
             first = next((one for one in self.lines[line + 1 :] if one.strip()), "")
             return Position(line + 2 + row, len(first) - len(first.lstrip(" ")) + offset - (text.rfind("\n", 0, offset) + 1) + 1)
-        begin = column + (node.style in ("'", '"'))
-        is_plain = self.lines[line][begin : begin + len(text)] == text
-        return Position(line + 1, (begin + offset if is_plain else column) + 1)
+        if node.style == ">":
+            return folded(self.lines[line + 1 :], offset, text, line + 2) or Position(line + 1, column + 1)
+        begin, raw = column + (node.style in QUOTES), self.lines[line]
+        if raw[begin : begin + len(text)] == text:
+            return Position(line + 1, begin + offset + 1)
+        return Position(line + 1, (quoted(raw, begin, offset, node.style) or column) + 1)
+
+
+def folded(lines: list[str], offset: int, text: str, number: int) -> Optional[Position]:
+    """The place of a character of a text whose lines, the first of which has this number, are joined by blanks."""
+    indent = len(lines[0]) - len(lines[0].lstrip(" ")) if lines else 0
+    at = 0
+    for row, line in enumerate(lines):
+        own = line[indent:]
+        if not own or own[0] in " \t" or text[at : at + len(own)] != own:
+            return None
+        if offset < at + len(own):
+            return Position(number + row, indent + offset - at + 1)
+        at += len(own) + 1
+    return None
+
+
+def quoted(raw: str, begin: int, offset: int, style: str) -> int:
+    """The place in a line of a character of a quoted text that begins there; 0 if the line ends before it."""
+    at = begin
+    for _ in range(offset):
+        found = ESCAPES[style].match(raw, at) if style in QUOTES else None
+        at = found.end() if found else len(raw)
+    return at if at < len(raw) else 0
 
 
 def composed(text: str) -> list[Any]:

@@ -37,7 +37,7 @@ class Result:
     @property
     def name(self) -> str:
         """Namespace and name."""
-        return f"{self.namespace}/{self.thing.name}" if self.namespace else self.thing.name
+        return f"{self.namespace}/{self.thing.name}" if self.namespace and self.thing.name else self.thing.name
 
     @property
     def title(self) -> str:

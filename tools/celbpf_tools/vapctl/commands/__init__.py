@@ -12,14 +12,17 @@ WHATS = {
     "audit": "check the objects of a cluster, with a summary by policy, namespace and kind",
     "state": "save the state of a cluster: its policies, and what they need",
     "test": "run tests of policies",
+    "reviews": "show what a policy decides of many reviews",
     "why": "show why a policy decides a review, a manifest or a test case as it does",
     "debug": "debug a decision step by step, forward and back",
     "lint": "show all that is refused in policies",
     "compile": "write the image of a policy's program",
     "translate": "print a policy as it is compiled",
+    "as-reviews": "print the admission review of each object, a line each",
+    "asm": "assemble a program's text with comments and named constants",
 }
 
 
 def module_of(name: str) -> ModuleType:
     """The module of a subcommand."""
-    return importlib.import_module(f"{__name__}.{name}")
+    return importlib.import_module(f"{__name__}.{name.replace('-', '_')}")

@@ -7,7 +7,7 @@ from typing import Iterable, Optional
 
 from ...asking.program import NotAnswered, located
 from ...asking.translating import program_of
-from ...commands import dap
+from ...dap.serving import serve
 from ...entry import Stop
 from ..inputs import STDIN
 from ..one_decision import Decision, add_words
@@ -17,7 +17,7 @@ from ..statuses import REFUSED, WORDS
 
 MORE = """Without --dap it is a session of `celbpf debug` on the program of the policy's translation, which `vapctl translate`
 prints, on standard input and output. On a terminal it has a prompt, and `help` lists the commands, which docs/DEBUGGER.md
-defines. POLICY may be an image too, as `celbpf asm`, `tools/asm` and `vapctl compile` write it: then no review is needed,
+defines. POLICY may be an image too, as `celbpf asm`, `vapctl asm` and `vapctl compile` write it: then no review is needed,
 and one that is given is an AdmissionReview in JSON."""
 # the begin of an image's file
 IMAGE = b"CELBPF0"
@@ -35,7 +35,7 @@ def run(given: argparse.Namespace) -> int:
     if given.dap:
         if given.policy:
             raise Stop("with --dap the editor names the files", WORDS)
-        return dap.serve(given)
+        return serve(given)
     if is_image(given.policy):
         files = (("review", given.review), ("namespace", given.namespace_object), ("params", given.params))
         for _, file in files:

@@ -2,9 +2,10 @@
 
 import argparse
 import json
+import sys
 import tempfile
 from collections.abc import Iterator
-from typing import Any, Callable
+from typing import Any, Callable, TextIO
 
 from ...asking.gatekeeper import Gatekeeper
 from ...asking.program import Program, located
@@ -17,6 +18,7 @@ from ..one_decision import add_programs
 from ..positions import Marks
 from ..reports.github import command
 from ..reports.texts import on_line
+from ..reports.words import FormWord, refuse_twice
 from ..results import plural
 from ..statuses import GOOD, REFUSED
 from ..wide_linting import wide_faults
@@ -31,7 +33,7 @@ FORMS = ("table", "json", "github")
 def words(parser: argparse.ArgumentParser) -> None:
     """The options of the command."""
     parser.add_argument("policies", nargs="+", metavar="P", help="files and folders of policies; - is standard input")
-    parser.add_argument("-o", "--output", choices=FORMS, default="table", help="the form of the report (default: table)")
+    FormWord(FORMS).add_to(parser, "table")
     add_programs(parser)
 
 
@@ -49,7 +51,8 @@ def place_of(fault: Fault) -> tuple[int, int]:
 
 
 def run(given: argparse.Namespace) -> int:
-    """Prints the refusals of each policy."""
+    """Writes the refusals of each policy."""
+    refuse_twice(given.output)
     inputs = Inputs(keeps_texts=True)
     policies = [thing for thing in inputs.things(given.policies) if thing.kind == POLICY]
     marks = {name: Marks(text) for name, text in inputs.texts.items()}
@@ -60,9 +63,13 @@ def run(given: argparse.Namespace) -> int:
         shown = asked(given, folder)
         for policy in policies:
             found += sorted(shown(policy, marks.get(policy.place.file)), key=place_of)
-    SHOWN[given.output](found, inputs.troubles)
-    if given.output != "json":
-        print(summary(len(policies), len({id(fault.policy) for fault in found}), len(inputs.troubles)))
+    summed = summary(len(policies), len({id(fault.policy) for fault in found}), len(inputs.troubles))
+    for name, file in given.output or [("table", "")]:
+        if not file:
+            SHOWN[name](found, inputs.troubles, summed, sys.stdout)
+            continue
+        with open(file, "w", encoding="utf-8") as out:
+            SHOWN[name](found, inputs.troubles, summed, out)
     return REFUSED if found or inputs.troubles else GOOD
 
 
@@ -73,21 +80,23 @@ def summary(policies: int, refused: int, unread: int) -> str:
     return f"{policies} {'policy' if policies == 1 else 'policies'}: {', '.join(told)}"
 
 
-def table(found: list[Fault], troubles: list[Trouble]) -> None:
+def table(found: list[Fault], troubles: list[Trouble], summed: str, out: TextIO) -> None:
     """A line for each refusal, and its text with carets."""
     for fault in found:
-        print(*fault.lines(), sep="\n")
+        print(*fault.lines(), sep="\n", file=out)
     for trouble in troubles:
-        print(on_line(f"{trouble.place}: not read: {trouble.why}"))
+        print(on_line(f"{trouble.place}: not read: {trouble.why}"), file=out)
+    print(summed, file=out)
 
 
-def github(found: list[Fault], troubles: list[Trouble]) -> None:
+def github(found: list[Fault], troubles: list[Trouble], summed: str, out: TextIO) -> None:
     """An annotation for each refusal."""
     for fault in found:
         message = fault.message + f"; write {fault.hint}" * bool(fault.hint)
-        print(command("error", fault.policy.place.file, fault.position.line, fault.policy.name, message))
+        print(command("error", fault.policy.place.file, fault.position.line, fault.policy.name, message), file=out)
     for trouble in troubles:
-        print(command("error", trouble.place.file, trouble.place.line, "not read", trouble.why))
+        print(command("error", trouble.place.file, trouble.place.line, "not read", trouble.why), file=out)
+    print(summed, file=out)
 
 
 def entry(fault: Fault) -> dict[str, Any]:
@@ -99,10 +108,10 @@ def entry(fault: Fault) -> dict[str, Any]:
     return {**where, **said, **piece, **({"write": fault.hint} if fault.hint else {})}
 
 
-def as_json(found: list[Fault], troubles: list[Trouble]) -> None:
+def as_json(found: list[Fault], troubles: list[Trouble], _summed: str, out: TextIO) -> None:
     """All refusals, in ASCII."""
     unread = [{"file": one.place.file, "line": one.place.line, "message": one.why} for one in troubles]
-    print(json.dumps({"refusals": list(map(entry, found)), "notRead": unread}, indent=2))
+    print(json.dumps({"refusals": list(map(entry, found)), "notRead": unread}, indent=2), file=out)
 
 
 SHOWN = {"table": table, "json": as_json, "github": github}

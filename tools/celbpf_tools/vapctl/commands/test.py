@@ -3,22 +3,14 @@
 import argparse
 import sys
 
-from ...commands import test
-from ...testing import output
+from ...testing import output, running
 from ..one_decision import add_programs
+from ..reports.words import FormWord, refuse_twice
 from ..statuses import BAD, GOOD, REFUSED
 
-MORE = """In a folder it takes the files tests.yaml, tests.yml and tests.json, also in subfolders. docs/SCRIPTS.md has the keys of
+MORE = """In a folder it takes the files tests.yaml, tests.yml and tests.json, also in subfolders. docs/VAPCTL.md has the keys of
 a test file."""
 FORMS = ("table", "tap", "junit")
-
-
-def form(text: str) -> tuple[str, str]:
-    """A form and a file, which is empty for standard output: `FORM` or `FORM=FILE`."""
-    name, equals, file = text.partition("=")
-    if name not in FORMS or (equals and not file):
-        raise argparse.ArgumentTypeError(f"{text!r} is none of {', '.join(FORMS)}, nor one of these with =FILE")
-    return name, file
 
 
 def words(parser: argparse.ArgumentParser) -> None:
@@ -26,18 +18,17 @@ def words(parser: argparse.ArgumentParser) -> None:
     parser.add_argument("places", nargs="+", metavar="TESTS", help="folders and test files; - is standard input")
     parser.add_argument("--coverage", action="store_true",
                         help="also tell which outcomes of conditions, validations and messages no case reaches")
-    parser.add_argument("-o", "--output", action="append", type=form, default=[], metavar="FORM[=FILE]",
-                        help=f"the form of the report, to standard output or to a file: {', '.join(FORMS)} (default: table on a "
-                             "terminal, else tap); may be given several times")
+    FormWord(FORMS).add_to(parser, "table on a terminal, else tap")
     add_programs(parser)
 
 
 def run(given: argparse.Namespace) -> int:
     """Runs the tests, and writes the report."""
-    results, notes = test.outcome(given)
+    refuse_twice(given.output)
+    results, notes = running.outcome(given)
     for name, file in given.output or [("table" if sys.stdout.isatty() else "tap", "")]:
         write(name, file, results, notes)
-    status = test.status_of(results)
+    status = running.status_of(results)
     return {0: GOOD, 1: BAD}.get(status, REFUSED)
 
 

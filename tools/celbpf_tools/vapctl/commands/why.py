@@ -5,8 +5,8 @@ import tempfile
 from pathlib import Path
 
 from ...asking.program import NotAnswered, located
-from ...commands import why
 from ...entry import Stop
+from .. import telling
 from ..checking import Sources, gate_of, read, resources_of, state_of, stop, stop_at
 from ..cluster import NoState
 from ..cluster_why import ClusterWhy
@@ -49,10 +49,18 @@ def refuse_words(given: argparse.Namespace) -> None:
         raise Stop("--cluster goes with neither --policy nor --params", WORDS)
     if is_whole and (given.html or given.namespace_object or given.translated or given.profile):
         raise Stop("--html, --namespace-object, --translated and --profile are for one policy", WORDS)
+    if given.case is not None and has_own(given):
+        raise Stop("a case has its own policy, request, params and namespace", WORDS)
     if given.translated and given.profile:
         raise Stop("with --profile nothing is translated", WORDS)
     if not is_whole and (given.case is None) == (given.review is None):
         raise Stop("a policy and a review are needed, or --case and a test file, or --cluster and a review", WORDS)
+
+
+def has_own(given: argparse.Namespace) -> bool:
+    """Whether words name what a case of a test file has."""
+    documents = (given.name, given.object, given.params, given.namespace_object, given.old, given.operation, given.user)
+    return any(one is not None for one in documents) or bool(given.definitions or given.groups)
 
 
 def run(given: argparse.Namespace) -> int:
@@ -69,7 +77,7 @@ def run(given: argparse.Namespace) -> int:
 
 def of_one(given: argparse.Namespace, folder: Path) -> int:
     """The reason of a decision of one policy."""
-    return BAD if why.told(asked(given, folder)) else GOOD
+    return BAD if telling.told(asked(given, folder)) else GOOD
 
 
 def asked(given: argparse.Namespace, folder: Path) -> argparse.Namespace:

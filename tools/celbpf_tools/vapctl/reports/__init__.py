@@ -1,6 +1,7 @@
 """The forms of a report.
 
-    forms          the words of `-o`, and where a report is written
+    words          the words of `-o`
+    forms          the forms of a report on objects, and where it is written
     table          a table for people
     jsons          JSON
     junit          JUnit's XML

@@ -1,4 +1,4 @@
-"""The words of `-o`, and where a report is written."""
+"""The forms of a report on objects, and where it is written."""
 
 import argparse
 import os
@@ -7,6 +7,7 @@ from typing import Callable, TextIO
 
 from ..results import Report
 from . import github, jsons, junit, policyreport, sarif, table
+from .words import FormWord
 
 FORMS: dict[str, Callable[[Report, TextIO], None]] = {
     "json": jsons.write, "junit": junit.write, "sarif": sarif.write, "github": github.write,
@@ -15,20 +16,10 @@ FORMS: dict[str, Callable[[Report, TextIO], None]] = {
 NAMES = ("table", *FORMS)
 
 
-def form(text: str) -> tuple[str, str]:
-    """A form and a file, which is empty for standard output: `FORM` or `FORM=FILE`."""
-    name, equals, file = text.partition("=")
-    if name not in NAMES or (equals and not file):
-        raise argparse.ArgumentTypeError(f"{text!r} is none of {', '.join(NAMES)}, nor one of these with =FILE")
-    return name, file
-
-
 def add_words(parser: argparse.ArgumentParser, listed: str = "also list the objects that are allowed") -> None:
     """The options of reports; `listed` is what --verbose does."""
     group = parser.add_argument_group("report")
-    group.add_argument("-o", "--output", action="append", type=form, default=[], metavar="FORM[=FILE]",
-                       help=f"the form of the report, to standard output or to a file: {', '.join(NAMES)} (default: table); "
-                            "may be given several times")
+    FormWord(NAMES).add_to(group, "table")
     group.add_argument("--color", choices=("auto", "always", "never"), default="auto",
                        help="colour in a table (default: auto, which is on a terminal without NO_COLOR)")
     group.add_argument("-v", "--verbose", action="store_true", help=listed)

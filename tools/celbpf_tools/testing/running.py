@@ -1,48 +1,18 @@
-"""Runs the tests of policies: which requests they allow, which they deny, and by which message.
-
-usage: tools/test [--junit F] [--coverage] [--tap] [--profile] [--program PROGRAM] [--gatekeeper PROGRAM] FOLDER|FILE..
-
-In a folder it takes the files tests.yaml, tests.yml and tests.json, also in subfolders. A test file has the keys
-`policy` (by default policy.json or .yaml beside it), `namespace`, `params`, `steps`, and `cases`, a list of
-
-    name        how the case is told
-    review      the file of a review; or object, oldObject (each inline or a file), operation and request (more keys)
-    expect      allowed or denied
-    message     the whole message of a denial; contains: a part of it
-    refusal     instead of expect: the refusal that is wanted, as N2 or K6 validation 0 Y2
-
-and of policy, namespace, params and steps what differs for it. Policies are read as the gatekeeper reads them, with
-`--profile` as `celbpf` does. On a terminal there is a line for each file and for each
-case that fails, else the Test Anything Protocol. Status 0 says that all passed, 1 that a case failed, 3 that a file
-cannot be read, 2 that the words are wrong.
-"""
+"""Runs tests of policies: which requests they allow, which they deny, and by which message."""
 
 import argparse
 import functools
-import sys
 import tempfile
 from pathlib import Path
 from typing import Any, Iterator, Optional
 
 from ..asking.program import Program, located_gatekeeper
-from ..asking.translating import add_words, program_of
+from ..asking.translating import program_of
 from ..documents import Unreadable, one_in
-from ..entry import parser_of
-from ..testing import output
-from ..testing.answers import Asked, Programs, failures
-from ..testing.cases import Broken, Case, files_of, read
-from ..testing.coverage import Coverage
-from ..testing.output import Result
-
-
-def words() -> argparse.Namespace:
-    parser = parser_of(__doc__)
-    parser.add_argument("places", metavar="FOLDER|FILE", nargs="+", help="test files, or folders with them")
-    parser.add_argument("--junit", metavar="F", help="also write JUnit's XML")
-    parser.add_argument("--coverage", action="store_true", help="report outcomes that no case reaches")
-    parser.add_argument("--tap", action="store_true", help="print the Test Anything Protocol, also on a terminal")
-    add_words(parser)
-    return parser.parse_args()
+from .answers import Asked, Programs, failures
+from .cases import Broken, Case, files_of, read
+from .coverage import Coverage
+from .output import Result
 
 
 def results_of(places: list[Any], programs: Programs) -> tuple[Any, ...]:
@@ -128,13 +98,3 @@ def outcome(given: argparse.Namespace) -> tuple[Any, ...]:
     failed = sum(bool(result.failures) for result in results)
     notes.append(f"{len(results) - failed} of {len(results)} passed")
     return results, notes
-
-
-def main() -> int:
-    given = words()
-    results, notes = outcome(given)
-    shown = output.lines if sys.stdout.isatty() and not given.tap else output.tap
-    shown(results, notes, sys.stdout)
-    if given.junit:
-        output.junit(results, given.junit)
-    return status_of(results)

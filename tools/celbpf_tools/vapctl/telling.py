@@ -1,27 +1,13 @@
-"""Says why a policy decides a review as it does.
-
-usage: tools/why POLICY REVIEW [--namespace F] [--params F] [--html F] [--translated|--profile] [--program PROGRAM]
-       tools/why --case NAME TESTS [--html F] [--translated|--profile] [--program PROGRAM]
-
-`--case` takes policy, review, namespace and params of the case of this name in a test file, as `tools/test` reads it.
+"""What `vapctl why` prints of a decision of one policy.
 
 The first line is the outcome. Then comes each condition, variable and validation with its value (true, false, the
 error, or its value as JSON) and its expression. For an error the first part of it that is one follows; for what is
 false a tree of its parts with their values, the item of a macro that decides, and what to change; and for each denial
 its message and where that comes from. All is asked of the programs, for the parts of an expression by small policies
-with the same variables. The status is that of `celbpf review`; if the policy or a document is refused, the refusal is
-printed.
-
-The policy is read as the gatekeeper reads it (docs/LANGUAGE.md), and expressions are shown as their author wrote them;
-`--translated` also shows each as it is compiled. With `--profile` it is read as `celbpf` reads it (docs/CEL.md).
-
-With `--html F` the file F becomes a page that shows the same in a browser: the parts as trees that open, with the value
-of each sub-expression that the run evaluated, the review with the fields that were read, and below them the run of the
-program, step by step. It is one file, which loads nothing. Of a run of more than 20,000 steps it has the first 20,000.
+with the same variables.
 """
 
 import argparse
-import sys
 import tempfile
 from pathlib import Path
 from typing import Any, Optional
@@ -32,9 +18,9 @@ from ..asking.files import Files
 from ..asking.program import NotAnswered, Program
 from ..asking.reasons import reasons
 from ..asking.texts import escaped, indented, on_one_line
-from ..asking.translating import add_words, program_of
+from ..asking.translating import program_of
 from ..asking.values import ERROR, Values
-from ..entry import Stop, called, parser_of
+from ..entry import Stop
 from ..slots.mapping import NotMapped
 from ..testing import cases
 from ..testing.answers import Asked
@@ -51,33 +37,13 @@ CHANGE = "to be true: "
 MARK = "the message"
 
 
-def words() -> argparse.Namespace:
-    parser = parser_of(__doc__)
-    parser.add_argument("policy", metavar="POLICY|TESTS", help="a policy, JSON or YAML; with --case a test file")
-    parser.add_argument("review", metavar="REVIEW", nargs="?", help="an admission review, JSON")
-    parser.add_argument("--namespace", metavar="F", help="the Namespace object of the request")
-    parser.add_argument("--params", metavar="F", help="the params object")
-    parser.add_argument("--case", metavar="NAME", help="explain this case of a test file")
-    parser.add_argument("--html", metavar="F", help="also write a page for a browser")
-    parser.add_argument("--translated", action="store_true", help="also show each expression as it is compiled")
-    add_words(parser)
-    given = parser.parse_args()
-    if given.translated and given.profile:
-        parser.error("with --profile nothing is translated")
-    if (given.case is None) == (given.review is None):
-        parser.error("a policy and a review, or --case and a test file")
-    if given.case is not None and (given.namespace or given.params):
-        parser.error("a case has its own namespace and params")
-    return given
-
-
 def case_named(path: Path, name: str) -> cases.Case:
     """The case of this name in a test file."""
     try:
         found = cases.read(path).cases
     except cases.Broken as why:
         raise Stop(f"{path}: {why}") from why
-    named = [case for case in found if case.name == name]
+    named: list[cases.Case] = [case for case in found if case.name == name]
     if not named:
         raise Stop(f"{path}: no case {name!r}; there are {', '.join(repr(case.name) for case in found)}")
     if "policy" not in named[0].beside:
@@ -231,15 +197,3 @@ def told(given: argparse.Namespace) -> int:
         if given.html:
             write_page(given, program, decision)
     return 0 if response["allowed"] else 1
-
-
-def main() -> int:
-    try:
-        return told(words())
-    except NotAnswered as why:
-        print(f"celbpf: {why.line}", file=sys.stderr)
-        if why.line.startswith(("N1 ", "K", "G")):
-            print(f"why: {called('place')} says where the policy is refused", file=sys.stderr)
-        if why.line in ("N1 K1", "K1"):
-            print("why: if it is YAML, `vapctl why` reads it", file=sys.stderr)
-        return why.status
