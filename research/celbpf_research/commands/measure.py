@@ -1,11 +1,13 @@
 """Runs the built program on images and documents that it makes, and prints how long each run takes.
 
-usage: research/measure [PROGRAM [PART..]]   (steps, values, policies, worst, reads, shapes, seeded)
+usage: research/measure [PROGRAM [PART..]]   (steps, values, policies, worst, reads, shapes, seeded, audit)
 
 It builds nothing and proves nothing. Each row is the best of some runs, the program's start included:
 steps or calls a second if the row is of one long run, else milliseconds, of a whole run or of one of
 a session's lines; and the greatest resident memory, which GNU time tells. `reads` prints the processor
-time of calls of helpers by what they read. What is run is in celbpf_research/measures.
+time of calls of helpers by what they read. `audit` has `vapctl audit` check ten thousand Deployments by the gatekeeper
+beside the program, and compares its numbers with those that are counted by Python. What is run is in
+celbpf_research/measures.
 """
 
 import os
@@ -15,7 +17,7 @@ from typing import Any, Callable
 
 from celbpf_tools.home import EXAMPLES, built
 
-from ..measures import policies, reads, shapes, steps, values, worst
+from ..measures import audit, policies, reads, shapes, steps, values, worst
 from ..measures.runs import Runs
 
 PARTS: dict[str, Callable[[Runs], Any]] = {
@@ -26,6 +28,7 @@ PARTS: dict[str, Callable[[Runs], Any]] = {
     "reads": reads.measure,
     "shapes": shapes.measure,
     "seeded": shapes.seeded,
+    "audit": audit.measure,
 }
 
 

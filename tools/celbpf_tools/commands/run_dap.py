@@ -20,7 +20,7 @@ from typing import Any
 from ..asking.program import located
 from ..dap.adapter import Adapter
 from ..entry import Stop, parser_of
-from ..home import DATA, EXAMPLES, TOOLS
+from ..home import DATA, EXAMPLES, ROOT
 
 SCRIPTS = DATA / "run-dap"
 GOPATH = Path("/usr/share/gocode")
@@ -58,7 +58,7 @@ def make_images(program: Path, folder: Path) -> None:
 def passes(client: Path, script: Path, program: Path, folder: Path) -> bool:
     """Whether a script finds what it says; if not, the client prints where."""
     environment = {**os.environ, "EXAMPLES": str(EXAMPLES), "FOLDER": str(folder)}
-    words: list[Any] = [client, script, TOOLS / "dap", "--program", program]
+    words: list[Any] = [client, script, ROOT / "vapctl", "debug", "--dap", "--program", program]
     try:
         return not subprocess.run(words, env=environment, timeout=PATIENCE, check=False).returncode
     except subprocess.TimeoutExpired:

@@ -1,12 +1,12 @@
-"""Opens the pages of tools/why --html in a headless Chromium, and compares what they show with sessions.
+"""Opens the pages of `vapctl why --html` in a headless Chromium, and compares what they show with sessions.
 
 usage: tools/run-pages [PROGRAM] [--count N] [--pictures FOLDER]
 
 For each example policy the map from slots to sub-expressions is compared with the listing and with the compiled
 beginnings of the policy; for each run of an example the value of each sub-expression is compared with the evaluator's.
 For each denial of an example a page is made and opened: it may say nothing on the console and ask for nothing else.
-For the first N denials (10), of a policy each, tools/why makes it, what it shows at every position of the slider is compared with what a
-session of `celbpf debug` shows at that step, and keys and buttons are pressed. A page of hostile texts has to stay
+For the first N denials (10), of a policy each, `vapctl why` makes it, what it shows at every position of the slider is
+compared with what a session of `celbpf debug` shows at that step, and keys and buttons are pressed. A page of hostile texts has to stay
 whole. With `--pictures` the pages of some denials are kept as pictures, light and dark, wide and narrow. It needs
 Debian's `chromium`; if there is none, only the maps are compared, and the status is 10.
 """
@@ -26,7 +26,7 @@ from ..browsing.browser import located as browser
 from ..browsing.hostile import POLICY, REVIEW, hostile_faults
 from ..browsing.positions import keys_faults, positions_faults
 from ..entry import Stop, parser_of
-from ..home import EXAMPLES, TOOLS
+from ..home import EXAMPLES, ROOT
 from ..slots.mapping import parts_of
 from ..vapctl.telling import OUTCOMES
 from ..viewing.checking import Evaluator, count, map_faults
@@ -86,16 +86,16 @@ def run_checked(example: Example, program: Program) -> tuple[Any, ...]:
 
 
 def written(page: Path, policy: Path, documents: list[Any], path: Path) -> None:
-    """Writes a page by tools/why."""
-    review, *beside = documents[1:]
-    command = [TOOLS / "why", policy, review, *beside, "--html", page, "--program", path]
+    """Writes a page by `vapctl why`."""
+    review, *beside = ["--namespace-object" if word == "--namespace" else word for word in documents[1:]]
+    command = [ROOT / "vapctl", "why", policy, review, *beside, "--html", page, "--program", path]
     ran = subprocess.run(command, capture_output=True, text=True)
     if ran.returncode not in (0, 1):
-        raise Stop(f"tools/why ends with status {ran.returncode}: {ran.stderr}")
+        raise Stop(f"vapctl why ends with status {ran.returncode}: {ran.stderr}")
 
 
 def page_alone(example: Example, program: Program) -> str:
-    """The page of a denial without what to change, which takes most of the time of tools/why."""
+    """The page of a denial without what to change, which takes most of the time of `vapctl why`."""
     verdict = program.verdict(str(example.policy))
     places = [int(line.split()[1]) for line in verdict if line.startswith("validation ")]
     denials: dict[Any, Any] = {place: ("", "") for place in places}
@@ -161,7 +161,7 @@ class Pages:
         return [*faults, *keys_faults(self.page)]
 
     def translating(self, documents: list[Any]) -> Program:
-        """The programs, as tools/why asks them."""
+        """The programs, as `vapctl why` asks them."""
         return Translating(self.path, gatekeeper_of(None, str(self.path)), str(self.folder), documents)
 
     def take_hostile(self) -> None:

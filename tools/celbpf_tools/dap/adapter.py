@@ -97,7 +97,7 @@ class Adapter:
 
     def say(self, line: str) -> None:
         """Shows a line to whoever uses the client."""
-        self.connection.event("output", {"category": "stderr", "output": f"celbpf-dap: {line}\n"})
+        self.connection.event("output", {"category": "stderr", "output": f"vapctl debug: {line}\n"})
 
 
 def standard(given: Given) -> Adapter:

@@ -170,7 +170,7 @@ def write_listing(path: str, text: str) -> None:
 
 def launched(order: Order) -> Launched:
     """The session of an order; what hinders it is a `BadRequest`, and leaves no process and no file."""
-    folder = tempfile.TemporaryDirectory(prefix="celbpf-dap-")
+    folder = tempfile.TemporaryDirectory(prefix="vapctl-debug-")
     made: Any = None
     try:
         made = started(order, folder)

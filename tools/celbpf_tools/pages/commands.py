@@ -10,7 +10,7 @@ from typing import Any
 from ..home import ROOT
 from .texts import block, read, spans, tables
 
-OF_VAPCTL = "check|audit|state|test|why|lint|compile|translate"
+OF_VAPCTL = "check|audit|state|test|reviews|why|lint|compile|translate|as-reviews|asm"
 COMMAND = re.compile(rf"\./(?:celbpf (?:compile|review|run-image|asm|list)|vapctl (?:{OF_VAPCTL})) [^`\n]+")
 SESSION = re.compile(r"\./celbpf debug [^`\n]+")
 # where pages are

@@ -26,7 +26,8 @@ def runs() -> Iterator[tuple[str, list[str]]]:
 def words_of(action: argparse.Action) -> Iterator[str]:
     """An option, with each of its choices if it has some."""
     name = next((one for one in action.option_strings if one.startswith("--")), action.option_strings[0])
-    choices = action.type.names if isinstance(action.type, FormWord) else action.choices
+    form: object = action.type
+    choices = form.names if isinstance(form, FormWord) else action.choices
     yield from (f"{name} {one}" for one in choices) if choices else [name]
 
 

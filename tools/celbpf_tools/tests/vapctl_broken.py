@@ -67,6 +67,7 @@ INPUTS = {
 }
 GOOD = EXAMPLES / "replicas" / "policy.json"
 THING = DATA / "vapctl" / "manifests" / "02-too-many.yaml"
+REVIEW_FILE = EXAMPLES / "replicas" / "five.review.json"
 
 
 def commands(path: Path) -> Iterator[list[object]]:
@@ -92,6 +93,16 @@ def commands(path: Path) -> Iterator[list[object]]:
     yield ["why", "--policy", GOOD, path]
     yield ["debug", GOOD, path]
     yield ["debug", "-", THING]
+    yield ["reviews", path, REVIEW_FILE]
+    yield ["reviews", GOOD, path]
+    yield ["reviews", GOOD, "-"]
+    yield ["reviews", "--params", path, "--namespace-object", path, GOOD, REVIEW_FILE]
+    yield ["as-reviews", path]
+    yield ["as-reviews", "-", "--skip-unknown"]
+    yield ["as-reviews", "--cluster", path, "--old", path, THING]
+    yield ["asm", path]
+    yield ["asm", "-", "-o", os.devnull]
+    yield ["translate", path]
     yield ["lint", path]
     yield ["lint", "-", "-o", "json"]
     yield ["compile", path, "-o", os.devnull]

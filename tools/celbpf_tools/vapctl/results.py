@@ -72,8 +72,8 @@ class Report:
     @property
     def summary(self) -> str:
         """The numbers of objects by their outcomes, on one line."""
-        told = [f"{self.count(outcome)} {outcome}" for outcome in (ALLOWED, DENIED)]
-        told += [f"{self.count(UNDECIDED)} not decided"] if self.count(UNDECIDED) else []
+        told = [f"{self.count(outcome):,} {outcome}" for outcome in (ALLOWED, DENIED)]
+        told += [f"{self.count(UNDECIDED):,} not decided"] if self.count(UNDECIDED) else []
         told += [plural(len(self.troubles), "input") + " not read"] if self.troubles else []
         warned = len(self.findings(WARN))
         audited = len(self.findings(AUDIT))

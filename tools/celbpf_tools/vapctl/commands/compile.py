@@ -8,6 +8,7 @@ import tempfile
 from collections.abc import Iterator
 from typing import NoReturn
 
+from ...asking.program import NotAnswered
 from ...asking.translating import Translating, program_of
 from ...entry import Stop
 from ..checking import stop_at
@@ -16,6 +17,7 @@ from ..inputs import STDIN, Inputs, Thing
 from ..linting import Fault, faults
 from ..one_decision import add_programs, named, policy_text
 from ..positions import Marks
+from ..refusals import words_of_refusal
 from ..results import plural
 from ..statuses import GOOD, REFUSED, WORDS
 from ..wide_linting import wide_faults
@@ -47,7 +49,11 @@ def run(given: argparse.Namespace) -> int:
             if isinstance(program, Translating):
                 refuse(wide_faults(program.gatekeeper, policy, marks))
             refuse(faults(program, policy, marks))
-        write(program.compiled(document), given.output)
+        try:
+            image = program.compiled(document)
+        except NotAnswered as why:
+            raise Stop(words_of_refusal(why.line), REFUSED) from why
+        write(image, given.output)
     return GOOD
 
 
