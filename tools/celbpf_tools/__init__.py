@@ -1,4 +1,4 @@
-"""What the scripts of `tools` are made of: each script is a file that calls a command of this package.
+"""What `vapctl` and the scripts of `tools` are made of: each script is a file that calls a command of this package.
 
     home         where the repository or the installed package is
     entry        how a script begins and ends: words, streams, statuses

@@ -42,15 +42,15 @@ def place_of(text: str, at: int) -> str:
     return f"line {text.count(chr(10), 0, at) + 1} column {at - text.rfind(chr(10), 0, at)}"
 
 
-def text_of(path: Union[str, Path], shown: str = "") -> str:
-    """The text of a file, which errors call so, or of standard input if it is `-`."""
+def text_of(path: Union[str, Path]) -> str:
+    """The text of a file, or of standard input if it is `-`."""
     try:
         read = sys.stdin.buffer.read() if str(path) == STDIN else Path(path).read_bytes()
         return read.decode("utf-8-sig").replace("\r\n", "\n").replace("\r", "\n")
     except OSError as why:
-        raise Unreadable(f"{shown or path}: {why.strerror}") from why
+        raise Unreadable(f"{path}: {why.strerror}") from why
     except UnicodeDecodeError as why:
-        raise Unreadable(f"{shown or path}: byte {why.start} is not UTF-8") from why
+        raise Unreadable(f"{path}: byte {why.start} is not UTF-8") from why
 
 
 def json_fault(text: str) -> Optional[str]:

@@ -127,7 +127,7 @@ def measure(runs: Any) -> None:
     """The seconds of an audit by four gatekeepers, and whether it is right."""
     objects, report = Path(runs.folder, "deployments.json"), Path(runs.folder, "report.json")
     things = write(objects)
-    words = [ROOT / "vapctl", "audit", "--jobs", "4", "--policy", POLICIES, objects, "-o", "table", "-o", f"json={report}"]
+    words: list[Any] = [ROOT / "vapctl", "audit", "--jobs", "4", "--policy", POLICIES, objects, "-o", "table", "-o", f"json={report}"]
     began = time.perf_counter()
     ended = subprocess.run(words, env={**os.environ, "CELBPF_PROGRAM": runs.program}, stdout=subprocess.DEVNULL, check=False)
     seconds = time.perf_counter() - began

@@ -30,9 +30,10 @@ class Audit(unittest.TestCase):
                    for one in things]
         report: dict[str, Any] = {"summary": {"objects": 20}, "byPolicy": policies, "byNamespace": spaces, "results": results}
         self.assertEqual(audit.faults(report, things), [])
-        for key, value in (
+        changes: list[tuple[str, Any]] = [
             ("byPolicy", {**policies, "owner": Counter()}), ("byNamespace", {**spaces, "shop": {}}), ("summary", {"objects": 19}),
             ("results", [{**results[0], "outcome": "denied"}, *results[1:]]), ("results", results[1:]),
-        ):
+        ]
+        for key, value in changes:
             with self.subTest(key):
                 self.assertEqual(len(audit.faults({**report, key: value}, things)), 1)

@@ -12,6 +12,7 @@
     reasons        why an expression is false: the values of its pieces, and what to change
     refused        where a policy is refused, and what its refusal means
     places         the smallest piece of an expression that is refused
+    operands       the types of its operands
     wide_places    all pieces that the gatekeeper refuses
     wide_words     what its refusals mean, and what to write instead
     keys           the key of a document that is refused

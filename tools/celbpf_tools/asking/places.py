@@ -40,23 +40,22 @@ class Refusals:
                 return
             yield part, inner if place else frames
 
-    def smallest(self, piece: Piece, frames: list[Any]) -> Piece:
-        """The first of its parts that is refused, as deep as there is one, else the piece."""
+    def smallest(self, piece: Piece, frames: list[Any]) -> tuple[Piece, list[Any]]:
+        """The first of its parts that is refused, as deep as there is one, else the piece; and the frames in which it is."""
         for part, inner in self.parts(piece, frames):
             if self.refuses(part, inner):
                 return self.smallest(part, inner)
-        return piece
+        return piece, frames
 
 
-def smallest(program: Program, part: Part, cause: str) -> Piece:
-    """The smallest piece of a part that is refused with this cause, or all of it."""
-    whole = Piece(0, len(part.text))
+def smallest(refusals: Refusals) -> tuple[Piece, list[Any]]:
+    """The smallest piece of a part that is refused, with the frames in which it is, or all of the part."""
+    whole = Piece(0, len(refusals.part.text))
     try:
-        piece = cut(part.text)
+        piece = cut(refusals.part.text)
     except NotCut:
-        return whole
-    refusals = Refusals(program, part, cause)
-    return refusals.smallest(piece, []) if refusals.refuses(piece, []) else whole
+        return whole, []
+    return refusals.smallest(piece, []) if refusals.refuses(piece, []) else (whole, [])
 
 
 def called(name: str, count: int, is_method: bool) -> str:

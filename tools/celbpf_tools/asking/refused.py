@@ -3,9 +3,9 @@
 from dataclasses import dataclass
 from typing import Any, Optional
 
-from . import policies
+from . import operands, policies
 from .keys import TRUE, Keys
-from .places import cause_of, of_function, smallest
+from .places import Refusals, cause_of, of_function, smallest
 from .program import Program
 
 MEANINGS = {
@@ -61,8 +61,10 @@ def of_part(program: Program, policy: dict[str, Any], refusal: str) -> Refused:
     if at:
         begin = len(part.text.encode()[: int(at[1])].decode(errors="ignore"))
         return Refused(MEANINGS[cause], part, begin, begin + 1)
-    piece = smallest(program, part, cause)
-    return Refused(cause == "Y2" and of_function(program, piece) or MEANINGS[cause], part, piece.begin, piece.end)
+    refusals = Refusals(program, part, cause)
+    piece, frames = smallest(refusals)
+    meaning = cause == "Y2" and (of_function(program, piece) or operands.told(refusals, part.text, piece, frames))
+    return Refused(meaning or MEANINGS[cause], part, piece.begin, piece.end)
 
 
 def whole_part(number: str, part: policies.Part) -> Refused:

@@ -63,10 +63,3 @@ def program_of(given: Any, folder: str, documents: Any = ()) -> Program:
     if given.profile:
         return Program(celbpf, folder, documents)
     return Translating(celbpf, gatekeeper_of(given.gatekeeper, given.program), folder, documents)
-
-
-def add_words(parser: Any) -> None:
-    """The words by which `program_of` chooses."""
-    parser.add_argument("--profile", action="store_true", help="read the policy as `celbpf` does (docs/CEL.md)")
-    parser.add_argument("--program", metavar="PROGRAM", help="run this program celbpf instead of the usual one")
-    parser.add_argument("--gatekeeper", metavar="PROGRAM", help="run this program gatekeeper instead of the one beside it")

@@ -3,6 +3,7 @@
 from dataclasses import dataclass, field
 from typing import Any, Iterator, Optional
 
+from . import operands
 from .places import Refusals, cause_of
 from .policies import Part, as_variable, bound
 from .splitter import NotCut, Piece
@@ -35,6 +36,8 @@ class Found:
     around: tuple[Any, ...] = ()
     frames: list[Any] = field(default_factory=list)
     text: str = ""
+    # of Y2 what the operands are
+    operands: str = ""
 
 
 def bound_to_optional(text: str, frames: list[Any]) -> str:
@@ -124,6 +127,8 @@ class Places:
         all_of_it = self.made(cause, piece.begin, piece.end, "")
         found.text = self.part.text[all_of_it.begin : all_of_it.end]
         found.piece, found.around, found.frames = piece, tuple(around), frames
+        if cause == "Y2":
+            found.operands = operands.told(refusals, self.text, piece, frames)
         return found
 
     def of_token(self, cause: str, begin: int) -> Found:

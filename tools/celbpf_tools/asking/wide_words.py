@@ -41,7 +41,7 @@ def told(found: Found, text: str) -> tuple[str, str]:
     """What a refusal means, and what to write instead or no text."""
     if found.cause in OF_CAUSES:
         return OF_CAUSES[found.cause](found, text)
-    return MEANINGS.get(found.cause, "it is refused"), ""
+    return found.operands or MEANINGS.get(found.cause, "it is refused"), ""
 
 
 def bytes_told(found: Found, text: str) -> tuple[str, str]:

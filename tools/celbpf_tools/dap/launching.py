@@ -124,12 +124,11 @@ def image_of(order: Order, program: Program, folder: str) -> str:
 
 
 def with_files(order: Order, folder: str) -> Order:
-    """The order with files that can be opened more than once."""
+    """The order with files of JSON that can be opened more than once."""
     asked = Asked(Path(folder))
-    files = asked.files
-    documents = [word if word.startswith("--") else files.named(word) for word in order.documents]
+    documents = [word if word.startswith("--") else asked.file(word, Path()) for word in order.documents]
     policy = asked.file(order.policy, Path()) if order.policy else None
-    return replace(order, image=files.maybe(order.image), policy=policy, documents=documents)
+    return replace(order, image=asked.files.maybe(order.image), policy=policy, documents=documents)
 
 
 def program_of(order: Order, folder: str) -> Program:

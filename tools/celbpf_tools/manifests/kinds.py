@@ -126,7 +126,3 @@ class Resources:
     def of(self, thing: dict[str, Any]) -> Optional[Resource]:
         """The resource of an object, or None if its kind is not known."""
         return self.known.get((*group_version(thing["apiVersion"]), thing["kind"]))
-
-
-def kind_shown(thing: Any) -> str:
-    return f"{thing['apiVersion']} {thing['kind']}"

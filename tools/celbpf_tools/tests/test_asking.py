@@ -73,7 +73,7 @@ class Once(test_documents.Files):
     def test_a_launch(self) -> None:
         order = Order(None, str(self.plain), ["--review", str(self.pipe())], None, None, True, True)
         kept = with_files(order, str(self.folder))
-        self.assertEqual((kept.policy, Path(kept.documents[1]).read_text()), (str(self.plain), "once"))
+        self.assertEqual((kept.policy, Path(kept.documents[1]).read_text()), (str(self.plain), '"once"'))
 
 
 class Texts(unittest.TestCase):

@@ -5,7 +5,7 @@ import re
 import unittest
 from collections.abc import Iterator
 
-from ..home import DATA
+from ..home import DATA, ROOT, is_checkout
 from ..packaging.commands_manual import commands_of
 from ..vapctl.main import parser
 from ..vapctl.reports.words import FormWord
@@ -53,6 +53,19 @@ class Rows(unittest.TestCase):
                     continue
                 found = {word for words in done.get(command, []) for word in used(words, action)}
                 self.assertEqual(sorted(set(words_of(action)) - found), [], f"vapctl {command}")
+
+
+class Helps(unittest.TestCase):
+    def test_each_word_is_explained(self) -> None:
+        for command, one in commands_of(parser()).items():
+            for action in one._actions:
+                self.assertTrue(action.help, f"vapctl {command}: {action.option_strings or action.dest}")
+
+    @unittest.skipUnless(is_checkout(), "the pages are in the repository")
+    def test_each_subcommand_is_on_the_page(self) -> None:
+        page = (ROOT / "docs" / "VAPCTL.md").read_text(encoding="utf-8")
+        named = set(re.findall(r"^\| `vapctl ([a-z-]+)", page, re.MULTILINE))
+        self.assertEqual(named, set(commands_of(parser())))
 
 
 if __name__ == "__main__":

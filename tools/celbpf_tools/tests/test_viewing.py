@@ -219,6 +219,11 @@ class Writing(unittest.TestCase):
         self.assertIn("style-src &#x27;sha256-ypeBEsobvcr6wjGzmiPcTaeG7/gUfE5yuYB3ha/uSLs=&#x27;", rule)
         self.assertIn("default-src &#x27;none&#x27;", rule)
 
+    def test_title(self) -> None:
+        self.assertEqual(Decision({}, "denied", ["p", "r"]).title, "denied: p")
+        self.assertEqual(Decision({"metadata": {"name": "limit"}}, "denied", ["p", "r"]).title, "denied: limit, p")
+        self.assertEqual(Decision({"metadata": []}, "denied", ["p", "r"]).name, "")
+
     def test_files(self) -> None:
         given: dict[str, Any] = {"policy": "p", "review": "r", "namespace": None, "params": "q", "case": None}
         self.assertEqual(files(argparse.Namespace(**given)), ["p", "r", "params q"])

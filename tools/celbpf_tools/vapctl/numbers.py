@@ -3,7 +3,6 @@
 `kubectl` writes `3.0` and `1e3` as `3` and `1000`. A number that then is no 64-bit int is not decided.
 """
 
-import math
 from typing import Any, Iterator, Union
 
 LEAST, MOST = -(2**63), 2**63 - 1
@@ -87,8 +86,3 @@ def undecided_numbers(value: Any, path: str = "") -> Iterator[tuple[str, str]]:
             waiting += [(part, f"{where}[{place}]") for place, part in reversed(list(enumerate(one)))]
         elif isinstance(one, (int, float)) and not isinstance(one, bool) and not is_decided(one):
             yield where, shown(one)
-
-
-def is_finite(value: Any) -> bool:
-    """Whether a number is one that JSON has."""
-    return not isinstance(value, float) or math.isfinite(value)

@@ -50,6 +50,18 @@ class Decision:
     values: dict[Any, Any] = field(default_factory=dict)
     translations: dict[Any, Any] = field(default_factory=dict)
 
+    @property
+    def name(self) -> str:
+        """The name of the policy, empty if it has none."""
+        metadata = self.policy.get("metadata")
+        name = metadata.get("name") if isinstance(metadata, dict) else None
+        return name if isinstance(name, str) else ""
+
+    @property
+    def title(self) -> str:
+        """What a window shows: the outcome, the policy, and the first file."""
+        return f"{self.outcome}: {f'{self.name}, ' if self.name else ''}{self.files[0]}"
+
 
 @dataclass
 class Shown:
@@ -151,7 +163,7 @@ def head(decision: Decision, style: str, script: str) -> Markup:
         Markup(f'<meta http-equiv="Content-Security-Policy" content="{escaped(rule)}">'),
         Markup('<meta name="viewport" content="width=device-width, initial-scale=1">'),
         Markup('<meta name="color-scheme" content="light dark">'),
-        element("title", f"{decision.outcome}: {decision.files[0]}"),
+        element("title", decision.title),
         element("style", Markup(style)),
     ])
 
@@ -170,7 +182,7 @@ def page(decision: Decision, program: Program) -> str:
     given = run_data.embedded(run_data.data(slots, shown.run, shown.walk))
     body = [
         header(decision),
-        element("main", element("div", element("h2", "The policy"), sections(decision, shown), class_="policy"),
+        element("main", element("div", element("h2", f"The policy {decision.name}".rstrip()), sections(decision, shown), class_="policy"),
                 element("aside", element("h2", "The review"), LEGEND, review(decision, shown))),
         Markup(panel),
         element("script", Markup(given), type="application/json", id="data"),
