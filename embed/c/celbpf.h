@@ -50,9 +50,9 @@ extern "C" {
 /* The bytes that the program gatekeeper lets helper calls read, unless it is told otherwise. */
 #define CELBPF_READS UINT64_C(16777216)
 
-/* Bytes of stack that suffice, as measured: the most that was seen are 4.8 MB, 22 MB without optimisation, and 140 KB. */
+/* Bytes of stack that suffice, as measured: the most that was seen are 4.8 MB, 5.6 MB with little optimisation, and 140 KB. */
 #define CELBPF_NEW_STACK ((size_t)6 << 20)
-#define CELBPF_WIDE_STACK ((size_t)32 << 20)
+#define CELBPF_WIDE_STACK ((size_t)8 << 20)
 #define CELBPF_DECIDE_STACK ((size_t)256 << 10)
 
 /* A place for a gate: a policy that is compiled once. A place of zeros is empty. */
@@ -165,8 +165,8 @@ size_t celbpf_stack_left(void);
 
 /*
  * The calls above, which may be passed null for documents, the room and the length. A null place is an empty one. If the
- * thread has less stack left than they need, those that compile run on a thread of their own, with a stack of 16 MB, or of 64 MB
- * for the wide language, which has ended when they return; CELBPF_STACK if there can be no such thread. The two that decide with a gate do not
+ * thread has less stack left than they need, those that compile run on a thread of their own, with a stack of 16 MB,
+ * which has ended when they return; CELBPF_STACK if there can be no such thread. The two that decide with a gate do not
  * ask for the stack, since that takes longer than many a decision: see CELBPF_DECIDE_STACK.
  */
 uint32_t celbpf_gate_new_checked(celbpf_gate *place, const void *policy, size_t policy_len, void *room, size_t room_len,

@@ -7,7 +7,6 @@
 #include <signal.h>
 
 #define LARGE_STACK ((size_t)16 << 20)
-#define LARGER_STACK ((size_t)64 << 20)
 
 /* What a call is given, with no pointer null, and its status. */
 struct call {
@@ -73,7 +72,7 @@ static int start(pthread_t *thread, struct call *call) {
         return failed;
     sigfillset(&all);
     pthread_sigmask(SIG_SETMASK, &all, &before);
-    failed = pthread_attr_setstacksize(&attributes, call->is_wide ? LARGER_STACK : LARGE_STACK) ||
+    failed = pthread_attr_setstacksize(&attributes, LARGE_STACK) ||
              pthread_create(thread, &attributes, on_thread, call);
     pthread_sigmask(SIG_SETMASK, &before, NULL);
     pthread_attr_destroy(&attributes);

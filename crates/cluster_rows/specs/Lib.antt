@@ -12,4 +12,5 @@ pub mod Commands
 pub mod Words
 pub mod Gatekeeper
 pub mod Translations
+pub mod Depths
 pub mod Status

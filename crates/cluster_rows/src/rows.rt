@@ -1,5 +1,6 @@
 //! Rows worked by hand, each record of them a clause of an empty function.
 ghost use Rattle.cluster_rows.specs.Commands.{EndRowsHold, HeldRowsHold, CommandWordsHold};
+ghost use Rattle.cluster_rows.specs.Depths.{DepthRowsHold};
 ghost use Rattle.cluster_rows.specs.Gatekeeper.{FaultLineRowsHold, FaultNameRowsHold, GatekeeperLinesHold, TellingRowsHold, TogetherRowsHold};
 ghost use Rattle.cluster_rows.specs.Gates.{BlockRowsHold, CompiledRowsHold, ErrorRowsHold, JsonTextsHold};
 ghost use Rattle.cluster_rows.specs.Lines.{BlankRowsHold};
@@ -86,6 +87,11 @@ pub fn word_rows_stand()
 /// Policies that `gatekeeper --translate` writes.
 pub fn translation_rows_stand()
     ensures { WrittenTranslationsHold }
+{}
+
+/// Depths of expressions, and the refusal of one that is too deep.
+pub fn depth_rows_stand()
+    ensures { DepthRowsHold }
 {}
 
 /// What the gatekeeper writes: answers to lines, joined decisions, and lines on a cluster's policies.

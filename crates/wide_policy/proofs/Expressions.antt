@@ -20,6 +20,7 @@ use Rattle.wide_translation.specs.declared.translated.Translated.{Translated}
 use Rattle.wide_translation.specs.declared.translation_error.TranslationError.{TranslationError}
 use Rattle.wide_translation.specs.declared.translation_error.TranslationError.TheVariants as translation
 use Rattle.policy_glue.specs.declared.part_kind.PartKind.{PartKind}
+use Rattle.wide_policy.specs.Depth.{is_too_deep}
 use Rattle.wide_policy.specs.Errors.{from_reader, from_translation, from_writer, in_part}
 use Rattle.wide_policy.specs.Returns.{ReturnsTranslation, ReturnsExpression, ReturnsPart, IsPartTakenAs}
 use Rattle.wide_policy.specs.Taking.{TakenExpression, IsTranslated, IsTakenPart, IsRefusedPart, RefusesPart, fits, scope_for}
@@ -48,20 +49,24 @@ module _ (p : PartKind) (variables : List (List ℕ × Kind)) (text : List ℕ) 
   unread_by (wide_read.Double place) said = λ some. said
   unread_by (wide_read.Macro fault) said = λ some. said
 
-  -- the expression has no translation
-  pub untranslated_by : (w : Wide) (e : TranslationError) → IsWide text w → IsTranslation (translated (scope_for p variables) w) (Err e)
-      → ReturnsTranslation p variables text (Err (from_translation e))
-  untranslated_by w translation.Memory reads said = λ some. absurd (some refl)
-  untranslated_by w (translation.UnknownName n) reads said = λ some. (refl, w, reads, said refl)
-  untranslated_by w translation.OptionalValue reads said = λ some. (refl, w, reads, said refl)
-  untranslated_by w (translation.TakenName n) reads said = λ some. (refl, w, reads, said refl)
-  untranslated_by w translation.UnsignedInt reads said = λ some. (refl, w, reads, said refl)
-  untranslated_by w translation.OptionalEntry reads said = λ some. (refl, w, reads, said refl)
-  untranslated_by w translation.Unsupported reads said = λ some. (refl, w, reads, said refl)
+  -- the expression is too deep
+  pub too_deep_by : (w : Wide) → IsWide text w → is_too_deep w ≡ true → ReturnsTranslation p variables text (Err error.TooDeep)
+  too_deep_by w reads deep = λ some. (w, reads, deep)
 
-  pub translated_is : (w : Wide) (t : Translated) → IsWide text w → IsTranslation (translated (scope_for p variables) w) (Ok t) → ReturnsTranslation p variables text (Ok t)
-  translated_is w t reads said =
-      (record { wide = w; kind = t.kind; tree = view t.expression }, record { reads = reads; translation = said }, refl, refl)
+  -- the expression has no translation
+  pub untranslated_by : (w : Wide) (e : TranslationError) → IsWide text w → is_too_deep w ≡ false → IsTranslation (translated (scope_for p variables) w) (Err e)
+      → ReturnsTranslation p variables text (Err (from_translation e))
+  untranslated_by w translation.Memory reads shallow said = λ some. absurd (some refl)
+  untranslated_by w (translation.UnknownName n) reads shallow said = λ some. (refl, w, reads, shallow, said refl)
+  untranslated_by w translation.OptionalValue reads shallow said = λ some. (refl, w, reads, shallow, said refl)
+  untranslated_by w (translation.TakenName n) reads shallow said = λ some. (refl, w, reads, shallow, said refl)
+  untranslated_by w translation.UnsignedInt reads shallow said = λ some. (refl, w, reads, shallow, said refl)
+  untranslated_by w translation.OptionalEntry reads shallow said = λ some. (refl, w, reads, shallow, said refl)
+  untranslated_by w translation.Unsupported reads shallow said = λ some. (refl, w, reads, shallow, said refl)
+
+  pub translated_is : (w : Wide) (t : Translated) → IsWide text w → is_too_deep w ≡ false → IsTranslation (translated (scope_for p variables) w) (Ok t) → ReturnsTranslation p variables text (Ok t)
+  translated_is w t reads shallow said =
+      (record { wide = w; kind = t.kind; tree = view t.expression }, record { reads = reads; shallow = shallow; translation = said }, refl, refl)
 
   module _ (t : Translated) (one : ReturnsTranslation p variables text (Ok t)) where
     pub optional_is : fits p t.kind ≡ false → IsRefusedPart p variables text error.OptionalResult
@@ -81,6 +86,7 @@ module _ (p : PartKind) (variables : List (List ℕ × Kind)) (text : List ℕ) 
 
   part_by : (place : ℕ) (e : WideExpressionError) → ReturnsExpression p variables text (Err e) → ReturnsPart p place variables text (Err (in_part p place e))
   part_by place (error.Unread e) said = λ some. record { cause = error.Unread e; because = said (λ is. cc); is = refl }
+  part_by place error.TooDeep said = λ some. record { cause = error.TooDeep; because = said (λ is. cc); is = refl }
   part_by place (error.Untranslated e) said = λ some. record { cause = error.Untranslated e; because = said (λ is. cc); is = refl }
   part_by place error.OptionalResult said = λ some. record { cause = error.OptionalResult; because = said (λ is. cc); is = refl }
   part_by place error.Unwritten said = λ some. record { cause = error.Unwritten; because = said (λ is. cc); is = refl }

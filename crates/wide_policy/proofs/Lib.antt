@@ -3,6 +3,7 @@ pub mod Deciding
 pub mod Pairs
 pub mod Chains
 pub mod Values
+pub mod Views
 pub mod Trees
 pub mod Accepted
 pub mod Walks

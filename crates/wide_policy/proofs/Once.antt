@@ -32,6 +32,7 @@ use Rattle.policy_glue.specs.declared.part_kind.PartKind.TheVariants as part
 use Rattle.wide_policy.proofs.Pairs.{same_seconds}
 use Rattle.wide_policy.proofs.Trees.{PartsHold, parts_hold}
 use Rattle.wide_policy.specs.Carrying.{EachPair}
+use Rattle.wide_policy.specs.Depth.{is_too_deep}
 use Rattle.wide_policy.specs.Laws.{HasSameTexts}
 use Rattle.wide_policy.specs.Reading.{IsWidePolicy, WidePolicyReturns}
 use Rattle.wide_policy.specs.Taking.{TakenExpression, IsTranslated, scope_for, IsTakenPart, IsRefusedPart, IsUnreadWide, RefusesPart, EndsWith, TakesNamed, TakesWideVariable, RefusesWideVariable, TakesWideCondition, RefusesWideCondition, TakenValidation, TakesWideMessage, TakesWideValidation, RefusesWideValidation, TakenParts, WidePartsEnd, expression_of, fits, kept_text, profile_named, profile_of, profile_validation, source_of}
@@ -116,7 +117,10 @@ module _ (p : PartKind) (variables : List (List ℕ × Kind)) (text : List ℕ) 
   -- a part that is taken is not refused
   pub taken_part : (x : TakenExpression) (e : WideExpressionError) → IsTakenPart p variables text x → IsRefusedPart p variables text e → ⊥
   taken_part x (error.Unread e) is why = read_text text x.wide e is.is.reads why
-  taken_part x (error.Untranslated e) is why = not_untranslated x why.1 e is.is why.2 why.3
+  taken_part x error.TooDeep is why =
+      let wide : x.wide ≡ why.0 = one_wide text x.wide why.0 is.is.reads why.1 in
+      true≢false (sym why.2 ∙ ap is_too_deep (sym wide) ∙ is.is.shallow)
+  taken_part x (error.Untranslated e) is why = not_untranslated x why.1 e is.is why.2 why.4
   taken_part x error.OptionalResult is why =
       let same = one_translated x why.0 is.is why.1 in
       true≢false (sym is.fit ∙ ap (λ (y : TakenExpression). fits p y.kind) same ∙ why.2)

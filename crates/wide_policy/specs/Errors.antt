@@ -10,7 +10,7 @@ use Rattle.wide_reader.specs.ErrorCodes.{error_code, error_place}
 use Rattle.wide_reader.specs.declared.wide_error.WideReadError.{WideReadError, TheVariants.Text}
 use Rattle.wide_translation.specs.declared.translation_error.TranslationError.{TranslationError}
 use Rattle.wide_translation.specs.declared.translation_error.TranslationError.TheVariants as translation_error
-use Rattle.wide_policy.specs.declared.expression_error.WideExpressionError.{WideExpressionError, TheVariants.Unread, TheVariants.Untranslated, TheVariants.OptionalResult, TheVariants.Unwritten}
+use Rattle.wide_policy.specs.declared.expression_error.WideExpressionError.{WideExpressionError, TheVariants.Unread, TheVariants.TooDeep, TheVariants.Untranslated, TheVariants.OptionalResult, TheVariants.Unwritten}
 use Rattle.wide_policy.specs.declared.expression_error.WideExpressionError.TheVariants as expression_error
 use Rattle.wide_policy.specs.declared.wide_policy_error.WidePolicyError.{WidePolicyError, TheVariants.Unread as UnreadPolicy, TheVariants.InvalidExpression}
 use Rattle.wide_policy.specs.declared.wide_policy_error.WidePolicyError.TheVariants as wide_error
@@ -49,10 +49,11 @@ translation_code translation_error.OptionalEntry = codes "W6"
 translation_code translation_error.Unsupported = codes "W5"
 translation_code translation_error.Memory = codes "memory"
 
--- the code of an expression's error: that of its text or of its translation; P6 if the translation is too long, or nests
--- too deep
+-- the code of an expression's error: that of its text, W10 if it is too deep, or that of its translation; P6 if the
+-- translation is too long, or nests too deep
 abbrev pub wide_error_code : WideExpressionError → List ℕ
 wide_error_code (Unread e) = error_code e
+wide_error_code TooDeep = codes "W10"
 wide_error_code (Untranslated e) = translation_code e
 wide_error_code OptionalResult = codes "W4"
 wide_error_code Unwritten = codes "P6"
@@ -61,6 +62,7 @@ wide_error_code expression_error.Memory = codes "memory"
 -- the byte at which a text is refused, counted from 0
 abbrev pub wide_error_place : WideExpressionError → Option ℕ
 wide_error_place (Unread e) = error_place e
+wide_error_place TooDeep = None
 wide_error_place (Untranslated e) = None
 wide_error_place OptionalResult = None
 wide_error_place Unwritten = None

@@ -1,5 +1,6 @@
 -- Definitions of wide_policy: the list of their modules.
 pub mod WideTrees
+pub mod Depth
 pub mod WideEvaluation
 pub mod Carrying
 pub mod WideDocuments

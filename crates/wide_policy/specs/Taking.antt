@@ -21,10 +21,11 @@ use Rattle.policy_glue.specs.Trees.{VariableTree, ValidationTree, PolicyTree}
 use Rattle.policy_glue.specs.declared.part_kind.PartKind.{PartKind, TheVariants.Variable, TheVariants.Condition, TheVariants.Message}
 use Rattle.policy_glue.specs.declared.part_kind.PartKind.TheVariants as part
 use Rattle.wide_policy.specs.Carrying.{wide_variable, profile_variable}
+use Rattle.wide_policy.specs.Depth.{is_too_deep}
 use Rattle.wide_policy.specs.WideTrees.{WideVariableTree, WideValidationTree, WidePolicyTree}
 use Rattle.wide_policy.specs.declared.left_out.LeftOut.{LeftOut}
 use Rattle.wide_policy.specs.declared.message_rule.MessageRule.{MessageRule, TheVariants.Required, TheVariants.LeftOut as MayBeLeftOut}
-use Rattle.wide_policy.specs.declared.expression_error.WideExpressionError.{WideExpressionError, TheVariants.Unread, TheVariants.Untranslated, TheVariants.OptionalResult, TheVariants.Unwritten, TheVariants.Memory}
+use Rattle.wide_policy.specs.declared.expression_error.WideExpressionError.{WideExpressionError, TheVariants.Unread, TheVariants.TooDeep, TheVariants.Untranslated, TheVariants.OptionalResult, TheVariants.Unwritten, TheVariants.Memory}
 use Rattle.wide_policy.specs.declared.wide_policy_error.WidePolicyError.{WidePolicyError, TheVariants.InvalidExpression}
 
 -- ---- one expression
@@ -40,9 +41,10 @@ abbrev pub scope_for : PartKind → List (List ℕ × Kind) → WideScope
 scope_for Condition variables = condition_scope false
 scope_for p variables = scope_of false variables
 
--- the text is this expression, and this is its translation, as a part that may use these variables
+-- the text is this expression, which is not too deep, and this is its translation, as a part that may use these variables
 pub record IsTranslated (p : PartKind) (variables : List (List ℕ × Kind)) (text : List ℕ) (x : TakenExpression) : Type 0 where
   pub reads : IsWide text x.wide
+  pub shallow : is_too_deep x.wide ≡ false
   pub translation : IsTranslatedTo (translated (scope_for p variables) x.wide) x.kind x.tree
 
 -- whether the expression of this part may be of this kind: that of a variable may be an optional value
@@ -62,14 +64,17 @@ abbrev pub IsUnreadWide : List ℕ → WideReadError → Type 0
 IsUnreadWide text (Text read_error.Memory) = ⊥
 IsUnreadWide text e = WideReadReturns text (Err e)
 
--- the text is an expression that has no translation
+-- the text is an expression that is not too deep, and has no translation
 abbrev pub IsUntranslated : PartKind → List (List ℕ × Kind) → List ℕ → TranslationError → Type 0
 IsUntranslated p variables text e =
-    (is_memory e ≡ false) × (w : Wide) × IsWide text w × (translated (scope_for p variables) w ≡ carried.refused (fault_of e))
+    (is_memory e ≡ false) × (w : Wide) × IsWide text w × (is_too_deep w ≡ false)
+    × (translated (scope_for p variables) w ≡ carried.refused (fault_of e))
 
--- why the expression of a part is refused
+-- Why the expression of a part is refused. The causes exclude each other: of a text that is no expression nothing else
+-- is asked, an expression that is too deep is not translated, and so on.
 abbrev pub IsRefusedPart : PartKind → List (List ℕ × Kind) → List ℕ → WideExpressionError → Type 0
 IsRefusedPart p variables text (Unread e) = IsUnreadWide text e
+IsRefusedPart p variables text TooDeep = (w : Wide) × IsWide text w × (is_too_deep w ≡ true)
 IsRefusedPart p variables text (Untranslated e) = IsUntranslated p variables text e
 IsRefusedPart p variables text OptionalResult = (x : TakenExpression) × IsTranslated p variables text x × (fits p x.kind ≡ false)
 IsRefusedPart p variables text Unwritten =

@@ -7,6 +7,7 @@ ghost use Rattle.wide_reader.specs.Tree.{view};
 ghost use Rattle.wide_translation.specs.Declarations.{IsTranslation};
 ghost use Rattle.wide_translation.specs.Translated.{translated};
 
+use crate::depth::is_too_deep;
 use crate::expression_error::WideExpressionError;
 use crate::wide_policy_error::WidePolicyError;
 use policy_glue::PartKind;
@@ -30,7 +31,7 @@ fn translated(
     }
 }
 
-/// Reads the text and translates the part's expression.
+/// Reads the text and translates the part's expression, unless it is too deep: a translation recurses over the tree.
 fn translation(
     alloc: Global,
     part: PartKind,
@@ -40,6 +41,9 @@ fn translation(
     ensures { ReturnsTranslation part scope.now text.now result }
 {
     let wide = wide_reader::read(alloc, text)?;
+    if is_too_deep(&wide) {
+        return Err(WideExpressionError::TooDeep);
+    }
     Ok(translated(alloc, part, &wide, scope)?)
 }
 

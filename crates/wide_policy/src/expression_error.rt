@@ -18,6 +18,9 @@ pub enum WideExpressionError {
     /// The text is not an expression.
     #[error("{0}")]
     Unread(WideReadError),
+    /// The expression is more than 512 deep.
+    #[error("the expression nests too deep")]
+    TooDeep,
     /// The expression has no translation.
     #[error("{0}")]
     Untranslated(TranslationError),
@@ -33,13 +36,14 @@ pub enum WideExpressionError {
 }
 
 impl WideExpressionError {
-    /// The error's code: that of the text (`P1` to `P6`, `M1` to `M3`, `W1` to `W3`), `W2` or `W4` to `W6` of the
-    /// translation, `P6` if the translation cannot be written, or `memory`.
+    /// The error's code: that of the text (`P1` to `P6`, `M1` to `M3`, `W1` to `W3`), `W10` if the expression is too
+    /// deep, `W2` or `W4` to `W6` of the translation, `P6` if the translation cannot be written, or `memory`.
     pub fn code(&self) -> &'static str
         ensures { result.now ≡ wide_error_code self.now }
     {
         match self {
             WideExpressionError::Unread(error) => error.code(),
+            WideExpressionError::TooDeep => "W10",
             WideExpressionError::Untranslated(error) => translation_code(error),
             WideExpressionError::OptionalResult => "W4",
             WideExpressionError::Unwritten => "P6",

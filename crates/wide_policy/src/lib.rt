@@ -1,6 +1,7 @@
 //! Policies as clusters store them: read in the wide language, and translated into policies that are compiled.
 #![tactic(auto)]
 
+mod depth;
 mod expression;
 mod expression_error;
 mod fields;

@@ -362,17 +362,17 @@ static void *is_refused(void *given) {
     return (void *)(uintptr_t)(status == CELBPF_POLICY_UNCOMPILED && is_text((char *)line, len, of->line));
 }
 
-/* The policies of either language that take most stack to read: they have too many nodes, or a text that is too long. */
+/* The policies of either language that take most stack to read: they have too many nodes, or are too deep. */
 static void check_stacks(void) {
     size_t small = (size_t)1 << 20;
-    struct text negations = hostile_policy("", "!", 4095, "true"), fields = hostile_policy("object", ".a", 2044, "");
-    struct text sums = hostile_policy("", "1+", 2045, "1 == 1");
+    struct text negations = hostile_policy("", "!", 4095, "true"), fields = hostile_policy("object", ".a", 511, "");
+    struct text deep = hostile_policy("object", ".a", 2044, ""), sums = hostile_policy("", "1+", 2045, "1 == 1");
     struct hostile all[] = {
         {negations, checked, "celbpf: G3\n"}, {fields, wide_checked, "celbpf: G3\n"},
-        {sums, wide_checked, "celbpf: K6 validation 0 P6\n"},
+        {deep, wide_checked, "celbpf: K6 validation 0 W10\n"}, {sums, wide_checked, "celbpf: K6 validation 0 W10\n"},
     };
-    new_gate *plain[] = {celbpf_gate_new, celbpf_gate_new_wide, celbpf_gate_new_wide};
-    for (size_t n = 0; n < 3; n++) {
+    new_gate *plain[] = {celbpf_gate_new, celbpf_gate_new_wide, celbpf_gate_new_wide, celbpf_gate_new_wide};
+    for (size_t n = 0; n < 4; n++) {
         check(on_thread(small, is_refused, &all[n]) != NULL, "1 MB of stack", all[n].line);
         all[n].run = plain[n];
         check(on_thread((n ? CELBPF_WIDE_STACK : CELBPF_NEW_STACK) + small, is_refused, &all[n]) != NULL, "a MB more", all[n].line);

@@ -211,8 +211,10 @@ func TestCompile(t *testing.T) {
 	}
 }
 
-// hostile has expressions that take the most stack to read in each language, and have too many nodes.
+// hostile has expressions that take the most stack to read in each language, and hostileLines their refusals: one is too
+// deep, and one has too many nodes.
 var hostile = []string{Wide: "object" + strings.Repeat(".a", 2044), Profile: strings.Repeat("!", 4095) + "true"}
+var hostileLines = []string{Wide: "celbpf: K6 validation 0 W10", Profile: "celbpf: G3"}
 
 func TestHostilePolicy(t *testing.T) {
 	var wait sync.WaitGroup
@@ -221,7 +223,7 @@ func TestHostilePolicy(t *testing.T) {
 		go func(language Language) {
 			defer wait.Done()
 			var refusal *Refusal
-			if _, err := NewIn(language, ofExpression(hostile[language])); !errors.As(err, &refusal) || refusal.Line != "celbpf: G3" {
+			if _, err := NewIn(language, ofExpression(hostile[language])); !errors.As(err, &refusal) || refusal.Line != hostileLines[language] {
 				t.Error(err)
 			}
 		}(Language(n % 2))

@@ -35,6 +35,7 @@ MEANINGS = {
     "W4": "an optional value stands where there can be none",
     "W5": "it has a name or a form that is not supported",
     "W6": "a map has more than three entries with a question mark, or one whose key is computed",
+    "W10": "it is nested more than 512 deep",
     "G1": "it needs more than 60 words of the stack",
     "G2": "a variable is nested more than six variables deep",
     "G3": "the parts up to here have more than 512 nodes together",

@@ -16,6 +16,8 @@ TAKES_OPTIONAL = ("or", "optFlatMap")
 MAKES_OPTIONAL, OVER_OPTIONAL = ("or", "first", "last", "of", "none", "ofNonZeroValue"), ("optMap", "optFlatMap")
 # the methods that there are
 KNOWN = {"size", "startsWith", "endsWith", "contains", "first", "last", "min", "max", *OF_OPTIONALS}
+# the refusal of a text that is too deep to be cut into pieces
+TOO_DEEP = "W10"
 # what stands for a piece that is refused, so that what is around it is asked
 VALUE, OPTIONAL = "dyn(null)", "optional.of(dyn(null))"
 
@@ -116,6 +118,8 @@ class Places:
             read = self.text.lstrip()
             before = read.encode()[: int(refusal.split()[-1])].decode(errors="ignore")
             return self.of_token(cause, len(self.text) - len(read) + len(before))
+        if cause == TOO_DEEP:
+            return self.made(cause, 0, len(self.text), "")
         try:
             whole = cut(self.text)
         except NotCut:

@@ -136,4 +136,9 @@ def entry_told(found: Found, _: str) -> tuple[str, str]:
     return "of a map at most three entries have a question mark, with keys that are texts, written out", "`has(e.f) ? {..} : {..}`"
 
 
-OF_CAUSES = {"W1": bytes_told, "W2": number_told, "W3": map_told, "W4": optional_told, "W5": name_told, "W6": entry_told}
+def depth_told(_: Found, __: str) -> tuple[str, str]:
+    """Too many selections, indexes, calls or operators in a row."""
+    return MEANINGS["W10"], "variables for parts of it"
+
+
+OF_CAUSES = {"W1": bytes_told, "W2": number_told, "W3": map_told, "W4": optional_told, "W5": name_told, "W6": entry_told, "W10": depth_told}

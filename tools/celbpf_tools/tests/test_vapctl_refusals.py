@@ -9,6 +9,7 @@ ROWS = [
     ("K6 validation 0 P4 at 7", "validation 0: a token does not fit here, or the text ends too early at byte 7 (P4)"),
     ("K6 variable 1 W5 url", "variable 1: it has a name or a form that is not supported (W5 url)"),
     ("K6 message 2 W4", "message of validation 2: an optional value stands where there can be none (W4)"),
+    ("K6 variable 3 W10", "variable 3: it is nested more than 512 deep (W10)"),
     ("K6 condition 0 W1 at 3", "condition 0: it has a literal of bytes at byte 3 (W1)"),
 ]
 

@@ -214,6 +214,10 @@ REFUSALS = [
     ("object.t.matches('a{1001}')", "W8 at 17"), ("object.t.matches('(a{40}){40}')", "W8 at 17"),
     ("object.t.matches('[]a]')", "W8 at 17"), ("object.t.matches('^*')", "W8 at 17"),
     ("object.t.matches('a{')", "W8 at 17"),
+    ("object" + ".a" * 511, "none"), ("object" + ".a" * 512, "W10 at 0"), ("object" + "[0]" * 512, "W10 at 0"),
+    ("0" + " + 0" * 511, "none"), ("0" + " + 0" * 512, "W10 at 0"), ("[true" + " || true" * 511 + "]", "W10 at 0"),
+    ("nothing" + ".a" * 512, "W10 at 0"), ("has(object)" + ".a" * 512, "M3 at 4"), ("object" + ".a" * 512 + ".", "P4 at 1031"),
+    ("[" * 99 + "object" + ".a" * 412 + "]" * 99, "none"), ("[" * 100 + "object" + ".a" * 412 + "]" * 100, "W10 at 0"),
 ]
 
 

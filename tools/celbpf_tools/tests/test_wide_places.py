@@ -77,6 +77,10 @@ class Optionals(unittest.TestCase):
                 self.assertEqual(wants_optional(cut(text), ()), due)
 
 
+# the brackets that the stand-in takes, where a gatekeeper takes 512 levels
+MOST = 9
+
+
 class Program:
     """Stands in for a gatekeeper that has no function `bad`, no double, and a macro of one name only."""
 
@@ -85,6 +89,8 @@ class Program:
             text = variable["expression"].strip()
             if double := re.search(r"[0-9]\.[0-9]", text):
                 return f"K6 variable {place} W2 at {len(text[: double.start()].encode())}"
+            if text.count("[") > MOST:
+                return f"K6 variable {place} W10"
             for cause in (r"\bbad\(", r"\.all\(\w+, \w+,"):
                 if re.search(cause, text):
                     return f"K6 variable {place} W5{' bad' if 'bad' in cause else ''}"
@@ -108,6 +114,8 @@ class Refused(unittest.TestCase):
             ("bad(1).get() == 2", [("W5", "bad", "bad(1)")]),
             ("  'é' == a && 1.5 < b + 2.5", [("W2", "", "1.5"), ("W2", "", "2.5")]),
             ("\n1.5 'a", [("W2", "", "1")]),
+            # the whole of it, which is not cut
+            ("[" * 10 + "bad(1)" + "]" * 10, [("W10", "", "[" * 10 + "bad(1)" + "]" * 10)]),
         ]:
             with self.subTest(text):
                 self.assertEqual(found(text), due)
@@ -139,6 +147,7 @@ class Words(unittest.TestCase):
             ("m.transformList(k, v, k)", "W5", "",
              ("`transformList` with two names is not supported yet",
               "of a map `m.map(k, ..)` with `m[k]` for the value, of a list `l.map(v, ..)`")),
+            ("a.b", "W10", "", ("it is nested more than 512 deep", "variables for parts of it")),
             ("a", "M3", "", ("has() is asked of what is no field", "")),
         ]:
             with self.subTest(text):

@@ -9,7 +9,10 @@ from ..evaluator.grammar import LEVELS, MOST_OPEN, OPENING, WORDS, is_identifier
 from .macros import expand
 from .refused import refuse
 from .tokens import Token, tokens
-from .trees import Call, Field, Index, ListLiteral, Literal, MapLiteral, Method, Name, Operation, Ternary, Uint
+from .trees import Call, Field, Index, ListLiteral, Literal, MapLiteral, Method, Name, Operation, Ternary, Uint, parts
+
+# the greatest depth of an expression
+MOST_DEEP = 512
 
 
 class Reader:
@@ -187,10 +190,23 @@ class Reader:
         return tuple(found)
 
 
+def depth(tree: Any) -> int:
+    """The levels of a tree: one for a leaf, else one more than the deepest of its parts has."""
+    deepest, rest = 0, [(tree, 1)]
+    while rest:
+        node, level = rest.pop()
+        deepest = max(deepest, level)
+        rest += [(part, level + 1) for part in parts(node)]
+    return deepest
+
+
 def read(text: str) -> Any:
-    """The tree of a text, or the first of P1 to P6, W1 and W2 of a token, else of M1 to M3 and W3."""
+    """The tree of a text, or the first of P1 to P6, W1 and W2 of a token, else of M1 to M3 and W3, else W10."""
     reader = Reader(text)
     tree = reader.expression()
     if reader.at < len(reader.tokens):
         refuse("P4", reader.place())
-    return expand(tree)
+    tree = expand(tree)
+    if depth(tree) > MOST_DEEP:
+        refuse("W10", tree.place)
+    return tree

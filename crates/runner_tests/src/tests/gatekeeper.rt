@@ -45,7 +45,7 @@ const OPTIONAL_ANSWERS: &str =
 {"apiVersion":"admission.k8s.io/v1","kind":"AdmissionReview","response":{"allowed":false,"status":{"code":422,"message":"failed expression: object.spec.?replicas.orValue(1) <= 3","reason":"Invalid"},"uid":"u2"}}
 "#;
 
-/// The translations of `few`, `optional` and `untold`, the last without its message expression.
+/// The translations of `few`, `optional` and `untold`, and of `true` alone; the last two without message expressions.
 const FEW_TRANSLATED: &str =
     r#"{"apiVersion":"admissionregistration.k8s.io/v1","kind":"ValidatingAdmissionPolicy","metadata":{"annotations":{"validation.0":"object.spec.replicas <= 3"}},"spec":{"failurePolicy":"Fail","validations":[{"expression":"(object.spec.replicas <= 3)","reason":"Invalid"}]}}
 "#;
@@ -56,6 +56,10 @@ const OPTIONAL_TRANSLATED: &str =
 
 const UNTOLD_TRANSLATED: &str =
     r#"{"apiVersion":"admissionregistration.k8s.io/v1","kind":"ValidatingAdmissionPolicy","metadata":{"annotations":{"variable.0":"object.?a","condition.0":"true","validation.0":"false","validation.1":"true","message.1":"'b'"}},"spec":{"failurePolicy":"Ignore","variables":[{"name":"v","expression":"(((object != null) && has(object.a)) ? [object.a] : [])"}],"matchConditions":[{"name":"c","expression":"true"}],"validations":[{"expression":"false","message":"\"no\"","reason":"Forbidden"},{"expression":"true","messageExpression":"\"b\"","reason":"Invalid"}]}}
+"#;
+
+const LEAST_TRANSLATED: &str =
+    r#"{"apiVersion":"admissionregistration.k8s.io/v1","kind":"ValidatingAdmissionPolicy","metadata":{"annotations":{"validation.0":"true"}},"spec":{"failurePolicy":"Fail","validations":[{"expression":"true","reason":"Invalid"}]}}
 "#;
 
 /// The answers of `few` and `slow`, in either order: a request that the first does not deny is not decided by
@@ -109,7 +113,7 @@ no
 
 /// The words, the input, the status, standard output and the refusal.
 #[rattlefmt::skip]
-const ROWS: [(&str, &str, u8, &str, &str); 66] = [
+const ROWS: [(&str, &str, u8, &str, &str); 79] = [
     (FEW, TWO, 0, TWO_ANSWERS, ""),
     (
         FEW,
@@ -196,6 +200,21 @@ const ROWS: [(&str, &str, u8, &str, &str); 66] = [
     ("gatekeeper --policy untold", TWO, 3, "", "untold: K6 message 0 W5 url"),
     ("gatekeeper --translate unknown", TWO, 3, "", "unknown: K6 validation 1 W5 url"),
     ("gatekeeper --translate no-value --leave-messages", TWO, 3, "", "no-value: K6 validation 0 W4"),
+    // an expression of 512 levels is not too deep: of selections it has too many nodes, and a sum is no bool
+    ("gatekeeper --policy 512-selections", TWO, 3, "", "512-selections: G3"),
+    ("gatekeeper --policy 513-selections", TWO, 3, "", "513-selections: K6 validation 0 W10"),
+    ("gatekeeper --policy 513-selections --profile", TWO, 3, "", "513-selections: G3"),
+    ("gatekeeper --policy 2048-selections", TWO, 3, "", "2048-selections: K6 validation 0 W10"),
+    ("gatekeeper --translate 2048-selections", TWO, 3, "", "2048-selections: K6 validation 0 W10"),
+    ("gatekeeper --policy 512-sums", TWO, 3, "", "512-sums: K7"),
+    ("gatekeeper --policy 513-sums", TWO, 3, "", "513-sums: K6 validation 0 W10"),
+    ("gatekeeper --policy 513-indexes", TWO, 3, "", "513-indexes: K6 validation 0 W10"),
+    // before a name that is unknown, after a macro or a token that is refused
+    ("gatekeeper --policy 512-unknown", TWO, 3, "", "512-unknown: K6 validation 0 W5 nothing"),
+    ("gatekeeper --policy 513-unknown", TWO, 3, "", "513-unknown: K6 validation 0 W10"),
+    ("gatekeeper --policy 513-has", TWO, 3, "", "513-has: K6 validation 0 M3"),
+    ("gatekeeper --policy 513-bytes", TWO, 3, "", "513-bytes: K6 validation 0 W1 at 0"),
+    ("gatekeeper --policy 513-message", TWO, 3, "", "513-message: K6 message 0 W10"),
     ("gatekeeper --translate none", TWO, 3, "", "none: K1"),
     ("gatekeeper --translate missing", TWO, 3, "", "missing: file"),
     ("gatekeeper --translate", TWO, 2, "", "U1"),
@@ -311,19 +330,26 @@ fn ends_where_a_translation_is_not_written(rt: HostRuntime) -> Result<(), Fail> 
     Ok(())
 }
 
+/// The words, standard output and standard error of translations that leave a message expression out.
+const LEFT_OUT: [(&str, &str, &str); 2] = [
+    (
+        "gatekeeper --translate untold --leave-messages",
+        UNTOLD_TRANSLATED,
+        "gatekeeper: policy untold, left out message 0 W5 url\n",
+    ),
+    (
+        "gatekeeper --translate 513-message --leave-messages",
+        LEAST_TRANSLATED,
+        "gatekeeper: policy 513-message, left out message 0 W10\n",
+    ),
+];
+
 #[test]
 fn names_what_a_translation_leaves_out(rt: HostRuntime) -> Result<(), Fail> {
-    let mut input = Buffered::<_, 64>::new(Counting::new(TWO.as_bytes()));
-    let told = "gatekeeper: policy untold, left out message 0 W5 url\n";
-    let due = (0, UNTOLD_TRANSLATED.as_bytes(), told);
-    assert!(rt;
-        ends(
-            rt.alloc(),
-            "gatekeeper --translate untold --leave-messages",
-            &mut input,
-            1024,
-            due
-        )?
-    );
+    for (line, translated, told) in &LEFT_OUT {
+        let mut input = Buffered::<_, 64>::new(Counting::new(TWO.as_bytes()));
+        let due = (0, translated.as_bytes(), *told);
+        assert!(rt; ends(rt.alloc(), line, &mut input, 1024, due)?, "{line}");
+    }
     Ok(())
 }

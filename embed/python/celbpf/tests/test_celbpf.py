@@ -13,9 +13,10 @@ EXAMPLES = Path(os.environ.get("CELBPF_EXAMPLES") or Path(__file__).parents[4] /
 
 # an optional, and a function that has no translation
 HEAD = b'{"apiVersion":"admissionregistration.k8s.io/v1","kind":"ValidatingAdmissionPolicy","spec":{"validations":['
-# they take the most stack to read, in either language, and have too many nodes
+# they take the most stack, in either language: they have too many nodes, and the last is too deep
 HOSTILE = HEAD + b'{"expression":"' + b"!" * 4095 + b'true"}]}}'
-WIDE_HOSTILE = HEAD + b'{"expression":"object' + b".a" * 2044 + b'"}]}}'
+WIDE_HOSTILE = HEAD + b'{"expression":"object' + b".a" * 511 + b'"}]}}'
+TOO_DEEP = HEAD + b'{"expression":"object' + b".a" * 2044 + b'"}]}}'
 OPTIONAL = HEAD + b'{"expression":"object.?spec.?replicas.orValue(1) <= 3"}]}}'
 UNKNOWN = HEAD + b"{\"expression\":\"url('a')\"}]}}"
 REVIEW = (
@@ -113,7 +114,12 @@ class Edges(unittest.TestCase):
         seen: list = []
 
         def work() -> None:
-            for call in (lambda: Gate(HOSTILE, profile=True), lambda: compile_policy(HOSTILE), lambda: Gate(WIDE_HOSTILE)):
+            for call in (
+                lambda: Gate(HOSTILE, profile=True),
+                lambda: compile_policy(HOSTILE),
+                lambda: Gate(WIDE_HOSTILE),
+                lambda: Gate(TOO_DEEP),
+            ):
                 try:
                     call()
                 except Refused as refused:
@@ -124,7 +130,8 @@ class Edges(unittest.TestCase):
         thread.start()
         thread.join()
         threading.stack_size(before)
-        self.assertEqual(seen, [(Status.POLICY_UNCOMPILED, "celbpf: G3")] * 3)
+        lines = ["celbpf: G3"] * 3 + ["celbpf: K6 validation 0 W10"]
+        self.assertEqual(seen, [(Status.POLICY_UNCOMPILED, line) for line in lines])
 
 
 if __name__ == "__main__":

@@ -142,9 +142,11 @@ fn the_wide_language() {
 
 #[test]
 fn a_hostile_policy() {
-    // they take the most stack to read, of which a test's thread has 2 MB, and have too many nodes
-    let wide = of_expression(&format!("object{}", ".a".repeat(2044)));
-    assert_eq!(Gate::new(&wide).err().unwrap().line, "celbpf: G3");
+    // they take the most stack, of which a test's thread has 2 MB: they have too many nodes, or are too deep
+    for (count, line) in [(511, "celbpf: G3"), (2044, "celbpf: K6 validation 0 W10")] {
+        let wide = of_expression(&format!("object{}", ".a".repeat(count)));
+        assert_eq!(Gate::new(&wide).err().unwrap().line, line);
+    }
     let policy = of_expression(&format!("{}true", "!".repeat(4095)));
     assert_eq!(Gate::new_in(Language::Profile, &policy).err().unwrap().line, "celbpf: G3");
     assert_eq!(compile(&policy).unwrap_err().status, Status::PolicyUncompiled);

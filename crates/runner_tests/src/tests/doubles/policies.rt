@@ -1,7 +1,7 @@
 //! Policies in files.
 
 use review_runner::{FileError, Files};
-use std::alloc::Global;
+use std::alloc::{AllocError, Global};
 
 const FEW: &str =
     r#"{"apiVersion":"admissionregistration.k8s.io/v1","kind":"ValidatingAdmissionPolicy","spec":{"validations":[{"expression":"object.spec.replicas <= 3"}]}}"#;
@@ -45,9 +45,44 @@ pub const DEEP: &str =
 {"name":"f","expression":"[[[[[[[[[[[[[[[[[[[[[[[[[[[[[[[[[[[[[[[[[[[[[[[[[[variables.e]]]]]]]]]]]]]]]]]]]]]]]]]]]]]]]]]]]]]]]]]]]]]]]]]]"}],
 "validations":[{"expression":"size(variables.f) == 1"}]}}"#;
 
+/// Policies with an expression that is as deep as its name says: what is before the expression, its begin, what follows
+/// that, and how often.
+#[rattlefmt::skip]
+const CHAINS: [(&str, &str, &str, &str, usize); 11] = [
+    ("512-selections", "", "object", ".a", 511),
+    ("513-selections", "", "object", ".a", 512),
+    ("2048-selections", "", "object", ".a", 2047),
+    ("512-sums", "", "0", "+0", 511),
+    ("513-sums", "", "0", "+0", 512),
+    ("513-indexes", "", "object", "[0]", 512),
+    ("512-unknown", "", "nothing", ".a", 511),
+    ("513-unknown", "", "nothing", ".a", 512),
+    ("513-has", "", "has(object)", ".a", 512),
+    ("513-bytes", "", "b''", ".a", 512),
+    ("513-message", r#"true","messageExpression":""#, "object", ".a", 512),
+];
+
+/// The policy of this name with a deep expression, if there is one.
+fn deep_policy(alloc: Global, name: &str) -> Result<Option<Vec<u8>>, AllocError> {
+    for (other, before, begin, part, count) in &CHAINS {
+        if *other == name {
+            let mut text = String::from_str(
+                alloc,
+                r#"{"apiVersion":"admissionregistration.k8s.io/v1","kind":"ValidatingAdmissionPolicy","spec":{"validations":[{"expression":""#,
+            )?;
+            text.push_str(before)?;
+            text.push_str(begin)?;
+            text.push_str(part.repeat(alloc, *count)?.as_str())?;
+            text.push_str("\"}]}}")?;
+            return Ok(Some(Vec::from_slice(alloc, text.as_bytes())?));
+        }
+    }
+    Ok(None)
+}
+
 /// `few` allows at most 3 replicas, `lenient` too, under Ignore, `even` an even number of them, `slow`
 /// any number after many steps, `deep` is stopped, and `none` is not a policy. `optional` is as `few`, in the
-/// wide language; `unknown`, `no-value` and `bytes` are refused there, and `untold` for its message.
+/// wide language; `unknown`, `no-value` and `bytes` are refused there, and `untold` for its message. The others have deep expressions.
 #[derive(Drop)]
 pub struct Policies;
 
@@ -57,6 +92,9 @@ impl Files for Policies {
     ghost known = { λ _. None };
 
     fn read(&mut self, alloc: Global, name: &str) -> Result<Vec<u8>, FileError> {
+        if let Some(text) = deep_policy(alloc, name)? {
+            return Ok(text);
+        }
         let text = match name {
             "few" => FEW,
             "lenient" => LENIENT,

@@ -1,0 +1,16 @@
+-- The plain data of wide expressions whose parts are in lists of pairs or triples.
+use Rattle.std.proofs.Common.{◌≡◌, map, ap, sym, ◌∙◌}
+use Rattle.std.specs.declared.alloc.Global.{Global}
+use Rattle.std.specs.declared.vec.Vec.{Vec}
+use Rattle.wide_reader.specs.Tree as wide
+use Rattle.wide_reader.specs.Tree.{Wide, view, view_step, items, entries, item_view, entry_view}
+use Rattle.wide_reader.specs.declared.wide.Access.{Access}
+use Rattle.wide_reader.specs.declared.wide.Wide as code
+use Rattle.wide_reader.specs.declared.wide.Wide.{Wide as CodeWide, TheVariants.rolls-List, TheVariants.rolls-Map}
+use Rattle.wide_reader.specs.declared.wide.Wide.TheFolds.{fold-roll-Wide}
+
+pub view_list : (given : Vec (Access × CodeWide) Global) → view (code.List given) ≡ wide.list (items (map item_view given.items))
+view_list given = ap view (sym (rolls-List given)) ∙ fold-roll-Wide Wide view_step _
+
+pub view_map : (pairs : Vec (Access × CodeWide × CodeWide) Global) → view (code.Map pairs) ≡ wide.map (entries (map entry_view pairs.items))
+view_map pairs = ap view (sym (rolls-Map pairs)) ∙ fold-roll-Wide Wide view_step _
