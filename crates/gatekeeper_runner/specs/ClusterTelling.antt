@@ -55,17 +55,21 @@ block_text (Some cause) = codes ", blocked " ++ (cause_code cause ++ cause_text 
 abbrev pub binding_names : ClusterState → BoundPolicy → List (List ℕ)
 binding_names s p = map (λ b. b.name) (bindings_of p.name s.bindings)
 
+-- how a line on the policy of this name begins
+unfoldable pub policy_front : List ℕ → List ℕ
+policy_front name = codes "gatekeeper: policy " ++ name
+
 -- its line of standard error: its name, its bindings, its kind of params, why it is blocked
 abbrev pub policy_line : List json.Data → ClusterState → BoundPolicy → Option BlockCause → List ℕ
 policy_line lists s p cause =
-    codes "gatekeeper: policy " ++ (p.name ++ (codes ", bindings" ++ (spaced (binding_names s p)
-    ++ (params_text lists p.param_kind ++ (block_text cause ++ 10 ∷ [])))))
+    policy_front p.name ++ (codes ", bindings" ++ (spaced (binding_names s p)
+    ++ (params_text lists p.param_kind ++ (block_text cause ++ 10 ∷ []))))
 
 -- the line on a message expression that is left out: the policy, the place of the validation, counted from 0, and why
 abbrev pub note_line : List ℕ → LeftOut → List ℕ
 note_line name note =
-    codes "gatekeeper: policy " ++ (name ++ (codes ", left out message " ++ (decimal note.validation
-    ++ (codes " " ++ (wide_cause_text note.cause ++ 10 ∷ [])))))
+    policy_front name ++ (codes ", left out message " ++ (decimal note.validation
+    ++ (codes " " ++ (wide_cause_text note.cause ++ 10 ∷ []))))
 
 abbrev pub note_lines : List ℕ → List LeftOut → List ℕ
 note_lines name notes = flat_map (note_line name) notes

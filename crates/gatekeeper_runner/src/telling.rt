@@ -7,7 +7,7 @@ ghost use Rattle.cluster_state.specs.State.{state_view, ClusterState};
 ghost use Rattle.cluster_state.specs.Bindings.{binding_view};
 ghost use Rattle.cluster_gate.specs.Gates.{AreGatesFor, IsGateFor};
 ghost use Rattle.gatekeeper_runner.specs.ClusterStarting.{cause_code, cause_text};
-ghost use Rattle.gatekeeper_runner.specs.ClusterTelling.{block_text, cause_of, note_line, note_lines, params_text, policy_line, spaced, TellsPolicies};
+ghost use Rattle.gatekeeper_runner.specs.ClusterTelling.{block_text, cause_of, note_line, note_lines, params_text, policy_front, policy_line, spaced, TellsPolicies};
 
 use crate::listed::Listed;
 use admission::LeftOut;
@@ -61,8 +61,8 @@ fn policy_line<'a>(
         → t.items ≡ policy_line (map view listed.now.lists.now) s p (cause_of gate.now.standing)) }
 {
     let policy = gate.asked.policy;
-    let mut line = Vec::from_slice(alloc, b"gatekeeper: policy ")?;
-    line.extend_from_slice(policy.name.as_bytes())?;
+    let mut line = Vec::new(alloc);
+    add_front(&mut line, policy.name)?;
     line.extend_from_slice(b", bindings")?;
     let bindings = state.bindings_of(alloc, policy.name)?;
     add_bindings(&mut line, bindings)?;
@@ -70,6 +70,16 @@ fn policy_line<'a>(
     add_standing(alloc, &mut line, &gate.standing)?;
     line.extend_from_slice(b"\n")?;
     Ok(line)
+}
+
+/// Adds how a line on the policy with this name begins.
+#[tactic(auto, unfolding(crate::specs::ClusterTelling::policy_front))]
+fn add_front(line: &mut Vec<u8>, name: &str) -> Result<(), AllocError>
+    ensures { OnOk result (line.new.items ≡ line.old.items ++ policy_front name.now) }
+{
+    line.extend_from_slice(b"gatekeeper: policy ")?;
+    line.extend_from_slice(name.as_bytes())?;
+    Ok(())
 }
 
 /// Adds the names of the bindings.
@@ -147,8 +157,7 @@ pub fn add_notes(text: &mut Vec<u8>, name: &str, notes: &[LeftOut]) -> Result<()
 fn add_note(text: &mut Vec<u8>, name: &str, note: &LeftOut) -> Result<(), AllocError>
     ensures { OnOk result (text.new.items ≡ text.old.items ++ note_line name.now note.now) }
 {
-    text.extend_from_slice(b"gatekeeper: policy ")?;
-    text.extend_from_slice(name.as_bytes())?;
+    add_front(text, name)?;
     text.extend_from_slice(b", left out message ")?;
     add_number(text, note.validation)?;
     text.extend_from_slice(b" ")?;

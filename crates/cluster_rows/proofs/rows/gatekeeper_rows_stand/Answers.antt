@@ -6,6 +6,7 @@ use Rattle.policy_glue.specs.Rejections.{response_text}
 use Rattle.policy_glue.specs.Response.{review_tree}
 use Rattle.value_store.specs.Documents.{document_of}
 use Rattle.std.specs.Fmt.{digits}
+use Rattle.gatekeeper_runner.specs.ClusterTelling.{policy_front}
 use Rattle.gatekeeper_runner.specs.Lines.{refusal_text}
 use Rattle.cluster_rows.proofs.rows.gatekeeper_rows_stand.Goals as goal
 
@@ -84,7 +85,7 @@ returns-clause-named c = record {
 }
 
 pub returns-clause-policies : goal.returns-clause-policies
-unfolding documents_on_literals digits document_of review_tree response_text refusal_text
+unfolding documents_on_literals digits document_of review_tree response_text refusal_text policy_front
 returns-clause-policies c = record {
   params = refl;
   no_params = refl;
