@@ -23,7 +23,7 @@ use Rattle.cluster_gate.specs.declared.cluster_error.ClusterError.{ClusterError,
 use Rattle.cluster_gate.specs.declared.cluster_error.ClusterError.TheVariants as cluster_error
 use Rattle.admission.specs.declared.language.Language.{Language}
 use Rattle.admission.specs.declared.limits.Limits.{Limits}
-use Rattle.gatekeeper_runner.specs.FileFaults.{IsUnread, file_text}
+use Rattle.gatekeeper_runner.specs.FileFaults.{IsFileUnread, file_text}
 use Rattle.gatekeeper_runner.specs.Orders.{ClusterOrder}
 use Rattle.gatekeeper_runner.specs.declared.cluster_fault.ClusterFault.{ClusterFault, TheVariants.NoList, TheVariants.NoState, TheVariants.Blocked, TheVariants.InFile}
 use Rattle.gatekeeper_runner.specs.declared.start_refusal.StartRefusal.{StartRefusal, TheVariants.Plain, TheVariants.Cluster}
@@ -47,7 +47,7 @@ pub data HoldLists (known : Option FileSystem) : List Text → List json.Data �
 
 -- why a file gives no document: it is not read, or is not JSON
 pub data IsNoList (known : Option FileSystem) (name : Text) : StartRefusal → Type 0 where
-  unread : {r : StartRefusal} → IsUnread known name r → IsNoList known name r
+  unread : {r : StartRefusal} → IsFileUnread known name r → IsNoList known name r
   no_json : {text : List ℕ} (told : String Global) → IsReading known name (Ok text) → document_of text ≡ None → string_bytes told ≡ name
       → IsNoList known name (Cluster (NoList told))
   no_memory : IsNoList known name (Plain Memory)

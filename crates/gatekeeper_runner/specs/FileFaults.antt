@@ -42,7 +42,7 @@ IsRefusalOf name fault (Cluster (InFile told f)) = (string_bytes told ≡ name) 
 IsRefusalOf name fault (Cluster _) = ⊥
 
 -- the refusal of the file of this name, which is not read
-pub record IsUnread (known : Option FileSystem) (name : Text) (r : StartRefusal) : Type 0 where
+pub record IsFileUnread (known : Option FileSystem) (name : Text) (r : StartRefusal) : Type 0 where
   pub error : FileError
   pub reading : IsReading known name (Err error)
   pub told : IsRefusalOf name (fault_of_file error) r
@@ -50,7 +50,7 @@ pub record IsUnread (known : Option FileSystem) (name : Text) (r : StartRefusal)
 -- the refusal of an optional file, which is not read
 abbrev pub IsUnreadGiven : Option FileSystem → Option Text → StartRefusal → Type 0
 IsUnreadGiven known None r = ⊥
-IsUnreadGiven known (Some name) r = IsUnread known name r
+IsUnreadGiven known (Some name) r = IsFileUnread known name r
 
 -- ---- the line of standard error
 
@@ -70,7 +70,7 @@ file_text name file_fault.Memory = codes "memory"
 -- the bytes of the file of this name, or its refusal
 abbrev pub ReadsFrom : Option FileSystem → Text → Result (Vec ℕ Global) StartRefusal → Type 0
 ReadsFrom known name (Ok bytes) = IsReading known name (Ok bytes.items)
-ReadsFrom known name (Err r) = IsUnread known name r
+ReadsFrom known name (Err r) = IsFileUnread known name r
 
 -- the bytes of an optional file, or its refusal
 abbrev pub ReadsGiven : Option FileSystem → Option Text → Result (Option (Vec ℕ Global)) StartRefusal → Type 0

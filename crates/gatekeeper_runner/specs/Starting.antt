@@ -29,19 +29,19 @@ pub data Opens (known : Option FileSystem) (language : Language) : List Text →
       → Opens known language (names ++ name ∷ []) (policies ++ record { file = name; language = language; document = document } ∷ [])
 
 -- what is wrong with a file that gives no policy of a language
-pub data HasFault (known : Option FileSystem) (language : Language) (name : Text) : FileFault → Type 0 where
-  unread : (e : FileError) → IsReading known name (Err e) → HasFault known language name (fault_of_file e)
+pub data HasFileFault (known : Option FileSystem) (language : Language) (name : Text) : FileFault → Type 0 where
+  unread : (e : FileError) → IsReading known name (Err e) → HasFileFault known language name (fault_of_file e)
   refused : {document : List ℕ} {e : PolicyRefusal} → language ≡ Profile → IsReading known name (Ok document)
-      → IsPolicyRefused document e → HasFault known language name (Refused e)
+      → IsPolicyRefused document e → HasFileFault known language name (Refused e)
   refused_wide : {rule : MessageRule} {document : List ℕ} {e : WideRefusal} → language ≡ Wide rule
       → IsReading known name (Ok document) → IsWideRefused rule document e
-      → HasFault known language name (RefusedWide e)
-  no_memory : HasFault known language name file_fault.Memory
+      → HasFileFault known language name (RefusedWide e)
+  no_memory : HasFileFault known language name file_fault.Memory
 
 -- why a policy's file gives no policy of a language
 pub record IsUnopened (known : Option FileSystem) (language : Language) (name : Text) (r : StartRefusal) : Type 0 where
   pub fault : FileFault
-  pub has : HasFault known language name fault
+  pub has : HasFileFault known language name fault
   pub told : IsRefusalOf name fault r
 
 -- one policy does not open, and those before it do
@@ -83,22 +83,22 @@ KeepsFrom known order (Ok k) = (policies : List PolicyFile) × AreGates policies
 KeepsFrom known order (Err r) = GatekeeperStarts known order (Err r)
 
 -- the gate of the policy in this file, or what is wrong with the file
-abbrev pub OpensFile : Option FileSystem → Language → Text → Result NamedGate FileFault → Type 0
-OpensFile known language name (Ok gate) =
+abbrev pub OpensPolicyFile : Option FileSystem → Language → Text → Result NamedGate FileFault → Type 0
+OpensPolicyFile known language name (Ok gate) =
     (document : List ℕ) × IsReading known name (Ok document)
     × IsGateOf (record { file = name; language = language; document = document }) gate
-OpensFile known language name (Err f) = HasFault known language name f
+OpensPolicyFile known language name (Err f) = HasFileFault known language name f
 
 -- the gate of the policy in this file, or its refusal
 abbrev pub OpensNamed : Option FileSystem → Language → Text → Result NamedGate StartRefusal → Type 0
-OpensNamed known language name (Ok gate) = OpensFile known language name (Ok gate)
+OpensNamed known language name (Ok gate) = OpensPolicyFile known language name (Ok gate)
 OpensNamed known language name (Err r) = IsUnopened known language name r
 
 -- the gate of the policy in a document of a language, or what is wrong with a file that holds it
 abbrev pub OpensIn : Language → List ℕ → Result GatePolicy FileFault → Type 0
 OpensIn language document (Ok gate) = IsGateOn language document gate × OneImage gate.policy gate.image
 OpensIn language document (Err f) =
-    (known : Option FileSystem) (name : Text) → IsReading known name (Ok document) → HasFault known language name f
+    (known : Option FileSystem) (name : Text) → IsReading known name (Ok document) → HasFileFault known language name f
 
 -- the gates of the policies in these files, or the first refusal
 abbrev pub GatesFrom : Option FileSystem → Language → List Text → Result (Vec NamedGate Global) StartRefusal → Type 0

@@ -12,7 +12,7 @@ use Rattle.admission.specs.declared.wide_refusal.WideRefusal.{WideRefusal}
 use Rattle.clap.specs.Words.{Text}
 use Rattle.gatekeeper_runner.specs.ClusterTelling.{note_lines}
 use Rattle.gatekeeper_runner.specs.Orders.{TranslationOrder}
-use Rattle.gatekeeper_runner.specs.Starting.{HasFault, IsUnopened}
+use Rattle.gatekeeper_runner.specs.Starting.{HasFileFault, IsUnopened}
 use Rattle.gatekeeper_runner.specs.Together.{label_of}
 use Rattle.gatekeeper_runner.specs.TranslationText.{translation_text}
 use Rattle.gatekeeper_runner.specs.declared.file_fault.FileFault.{FileFault}
@@ -55,7 +55,7 @@ translation_view t = record { notes = t.notes.items; text = t.text.items }
 -- the translation of the policy in the file, or what is wrong with the file
 abbrev pub TranslatesFile : Option FileSystem → TranslationOrder → Result CodeTranslation FileFault → Type 0
 TranslatesFile known order (Ok t) = Translates known order (Ok (translation_view t))
-TranslatesFile known order (Err f) = HasFault known (Wide order.rule) order.file f
+TranslatesFile known order (Err f) = HasFileFault known (Wide order.rule) order.file f
 
 -- the translation of the policy in the file, or why there is none
 abbrev pub TranslatesFrom : Option FileSystem → TranslationOrder → Result CodeTranslation StartRefusal → Type 0

@@ -1,7 +1,7 @@
 //! Prepares the gatekeeper before the first line.
 ghost use Rattle.std.specs.Prelude.{◌≡◌, map, string_bytes, ℕ, List};
 ghost use Rattle.gatekeeper_runner.specs.Orders.{order_view};
-ghost use Rattle.gatekeeper_runner.specs.Starting.{GatesFrom, KeepsFrom, OpensFile, OpensIn, OpensNamed};
+ghost use Rattle.gatekeeper_runner.specs.Starting.{GatesFrom, KeepsFrom, OpensPolicyFile, OpensIn, OpensNamed};
 
 use crate::file_fault::FileFault;
 use crate::file_reading::{in_file, read_optional};
@@ -89,7 +89,7 @@ fn open_file<F: Files>(
     language: Language,
     files: &mut F,
 ) -> Result<NamedGate, FileFault>
-    ensures gate { OpensFile (F.known files.old) language name.now result }
+    ensures gate { OpensPolicyFile (F.known files.old) language name.now result }
     ensures known { F.known files.new ≡ F.known files.old }
 {
     let document = files.read(alloc, name)?;
