@@ -113,12 +113,12 @@ class Trial:
         self.judge(cost.is_within and ends_so and times <= MOST_TIMES, documents, line)
 
     def known(self, number: int, case: Known) -> None:
-        """A review with the limit of reads that it needs, and with one less."""
+        """A review with the limit of reads that it needs, and with one less. No expression is translated (--profile)."""
         documents = {"policy": json.dumps(case.policy).encode()}
-        cost = self.cost(documents, case.line, "--reads", str(case.reads))
+        cost = self.cost(documents, case.line, "--profile", "--reads", str(case.reads))
         endings = [cost.ending]
         if case.reads:
-            endings.append(self.cost(documents, case.line, "--reads", str(case.reads - 1)).ending)
+            endings.append(self.cost(documents, case.line, "--profile", "--reads", str(case.reads - 1)).ending)
         in_steps = case.may_end_in_steps and cost.ending == "N4"
         is_exact = in_steps or (endings[0] in ("allowed", "denied") and endings[1:] in ([], ["N7"]))
         is_good = is_exact and cost.is_within
