@@ -23,6 +23,8 @@ DEEPEST = 2_000
 DEEP = ("compile", "debug", "lint", "test", "translate", "why")
 # how other programs name files
 FILES = ("-f", "--filename", "--file")
+# what scripts end with if there is no program to run
+NO_PROGRAM = range(10, 14)
 # shows where an error in vapctl itself is
 DEBUG = "VAPCTL_DEBUG"
 
@@ -86,7 +88,14 @@ def main(words: Optional[list[str]] = None) -> int:
         sys.setrecursionlimit(DEEPEST)
     try:
         return int(given.run(given))
-    except (Stop, OSError, KeyboardInterrupt):
+    except Stop as why:
+        raise Stop(why.line, REFUSED if why.status in NO_PROGRAM else why.status) from why
+    except SystemExit as ended:
+        # a script that builds a program, and has told why there is none
+        if ended.code in NO_PROGRAM:
+            return REFUSED
+        raise
+    except (OSError, KeyboardInterrupt):
         raise
     except Exception as why:  # pylint: disable=broad-except
         if os.environ.get(DEBUG):
