@@ -10,6 +10,7 @@ import re
 from pathlib import Path
 from typing import Any, Iterator
 
+from ..asking.gatekeeper import REFUSAL, without_file
 from .cluster import EVERYTHING, NoState, State, key_of, policy_of, spec_of
 from .gate import Answer, Gate
 from .inputs import Thing
@@ -64,7 +65,7 @@ class Deciding:
 
     def fault(self, line: str) -> str:
         """Why the state is refused, with the place of the object that the line names."""
-        code, _, name = line.removeprefix("celbpf: ").partition(" ")
+        code, _, name = without_file(line, [self.file]).removeprefix(REFUSAL).partition(" ")
         why = CAUSES.get(code, line)
         if code == "C2" and name.isdigit() and int(name) < len(self.state.things):
             thing = self.state.things[int(name)]
