@@ -24,9 +24,8 @@ from ..statuses import GOOD, REFUSED
 from ..wide_linting import wide_faults
 
 MORE = """Policies are judged as `vapctl` and `gatekeeper` read them (docs/LANGUAGE.md), with --profile as `celbpf` does
-(docs/CEL.md). Each refusal has the line and the column in the file, the part of the policy,
-what is meant, and its code, and mostly what to write instead. Refusals of the whole document, such as K3, are shown one
-at a time."""
+(docs/CEL.md). Each refusal has the line and the column in the file, the part of the policy, what is meant, and its code,
+and mostly what to write instead. Refusals of the whole document, such as K3, are shown one at a time."""
 FORMS = ("table", "json", "github")
 
 
