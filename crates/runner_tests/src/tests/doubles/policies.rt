@@ -48,14 +48,11 @@ pub const DEEP: &str =
 /// Policies with an expression that is as deep as its name says: what is before the expression, its begin, what follows
 /// that, and how often.
 #[rattlefmt::skip]
-const CHAINS: [(&str, &str, &str, &str, usize); 11] = [
-    ("512-selections", "", "object", ".a", 511),
+const CHAINS: [(&str, &str, &str, &str, usize); 8] = [
     ("513-selections", "", "object", ".a", 512),
     ("2048-selections", "", "object", ".a", 2047),
-    ("512-sums", "", "0", "+0", 511),
     ("513-sums", "", "0", "+0", 512),
     ("513-indexes", "", "object", "[0]", 512),
-    ("512-unknown", "", "nothing", ".a", 511),
     ("513-unknown", "", "nothing", ".a", 512),
     ("513-has", "", "has(object)", ".a", 512),
     ("513-bytes", "", "b''", ".a", 512),
