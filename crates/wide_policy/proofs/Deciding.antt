@@ -9,7 +9,7 @@ use Rattle.wide_kinds.specs.declared.kind.Kind.TheVariants as of
 use Rattle.wide_meaning.specs.Environment.{WideEnvironment}
 use Rattle.wide_meaning.specs.Meaning.{wide_meaning}
 use Rattle.wide_meaning.specs.Outcome.{Outcome, plain_part}
-use Rattle.wide_translation.specs.Placed.{WideStep, AreTranslated, kind_of, condition_roots, wide_environment, environment, with_outcome, with_value as with_step_value, PolicyMeansTheSame, ConditionMeansTheSame}
+use Rattle.wide_translation.specs.Placed.{WideStep, AreTabled, AreTranslated, kind_of, condition_roots, wide_environment, environment, with_outcome, with_value as with_step_value, PolicyMeansTheSame, ConditionMeansTheSame}
 use Rattle.wide_translation.specs.Scope.{scope_of, condition_scope}
 unfoldable use Rattle.policy_glue.specs.Evaluation.{decision_of}
 use Rattle.policy_glue.specs.Evaluation.{condition_values, with_value, values_of, validation_value, validation_values}
@@ -28,6 +28,12 @@ same_values P f g [] [] same h = refl
 same_values P f g [] (b ∷ ys) same h = absurd h
 same_values P f g (a ∷ xs) [] same h = absurd h
 same_values P f g (a ∷ xs) (b ∷ ys) same h = λ i. same a b h.0 i ∷ same_values P f g xs ys same h.1 i
+
+-- without tables no table has to be long enough
+untabled : (others : Wide → WideEnvironment → Outcome) (ts : Value) (roots : Roots) (before : List (List ℕ × Outcome)) (vs : List WideStep) (e : Wide)
+    → AreTabled others false ts roots before vs e
+untabled others ts roots before [] e = λ wrapped uses. absurd (cc)
+untabled others ts roots before (v ∷ vs) e = ((λ wrapped uses. absurd (cc)), untabled others ts roots (with_outcome others roots before v) vs e)
 
 module _ (law : PolicyMeansTheSame) (others : Wide → WideEnvironment → Outcome) (roots : Roots) where
   wide_values : (before : List (List ℕ × Outcome)) (vs : List WideStep)
@@ -48,7 +54,7 @@ module _ (law : PolicyMeansTheSame) (others : Wide → WideEnvironment → Outco
     env = environment roots (fold (with_step_value roots) [] vs)
 
     value_same : (e : Wide) (a : Tree) → CarriesValue (scope_of false (map kind_of vs)) e a → meaning a env ≡ wide_value others wide_env e
-    value_same e a c = (law others false null roots vs e (of.Value c.kind) a are c.means).means
+    value_same e a c = (law others false null roots vs e (of.Value c.kind) a are c.means (untabled others null roots [] vs e)).means
 
     message_same : (m : Option Wide) (b : Option Tree) → CarriesMessage (scope_of false (map kind_of vs)) m b
         → option_map (λ x. meaning x env) b ≡ option_map (λ x. wide_value others wide_env x) m
@@ -71,7 +77,7 @@ carried_decides law condition_law others f w t roots c =
     let conditions : condition_values roots t.conditions ≡ wide_condition_values others roots w.conditions =
     same_values (CarriesValue (condition_scope false)) (λ e. wide_value others (wide_environment (condition_roots roots) []) e)
     (λ a. meaning a (environment roots [])) w.conditions t.conditions
-    (λ e a is. (condition_law others false null roots e (of.Value is.kind) a is.means).means) c.conditions in
+    (λ e a is. (condition_law others false null roots e (of.Value is.kind) a is.means (untabled others null (condition_roots roots) [] [] e)).means) c.conditions in
     let here : values_of roots t.variables ≡ fold (with_step_value roots) [] vs = ap (values_of roots) c.trees_are ∙ profile_values law others roots [] vs in
     let wide : wide_values_of others roots w.variables ≡ fold (with_outcome others roots) [] vs = ap (wide_values_of others roots) c.wide_are ∙ wide_values law others roots [] vs in
     let between = same_values (CarriesValidation (scope_of false (map kind_of vs))) (wide_validation_value others (wide_env law others roots vs c.are_translated)) (validation_value (env law others roots vs c.are_translated))

@@ -61,6 +61,7 @@ module _ (p : PartKind) (variables : List (List ℕ × Kind)) (text : List ℕ) 
   untranslated_by w translation.OptionalValue reads shallow said = λ some. (refl, w, reads, shallow, said refl)
   untranslated_by w (translation.TakenName n) reads shallow said = λ some. (refl, w, reads, shallow, said refl)
   untranslated_by w translation.UnsignedInt reads shallow said = λ some. (refl, w, reads, shallow, said refl)
+  untranslated_by w translation.NeedsIndices reads shallow said = λ some. (refl, w, reads, shallow, said refl)
   untranslated_by w translation.OptionalEntry reads shallow said = λ some. (refl, w, reads, shallow, said refl)
   untranslated_by w translation.Unsupported reads shallow said = λ some. (refl, w, reads, shallow, said refl)
 

@@ -80,6 +80,7 @@ fn translation_code(error: &TranslationError) -> &'static str
         TranslationError::OptionalValue => "W4",
         TranslationError::TakenName(_) => "W5",
         TranslationError::UnsignedInt => "W2",
+        TranslationError::NeedsIndices => "W5",
         TranslationError::OptionalEntry => "W6",
         TranslationError::Unsupported => "W5",
         TranslationError::Memory => "memory",

@@ -1,12 +1,12 @@
 -- Names, fields, and whether a field is there.
-use Rattle.std.proofs.Common.{◌≡◌, ℕ, Bool, true, false, List, Option, Some, None, if◌then◌else◌, is_some, unwrap_or}
-use Rattle.std.proofs.Common.{refl, ap, sym, ◌∙◌, subst}
+use Rattle.std.proofs.Common.{◌≡◌, ℕ, Bool, true, false, List, length, Option, Some, None, if◌then◌else◌, is_some}
+use Rattle.std.proofs.Common.{unwrap_or, refl, ap, sym, ◌∙◌, subst}
 use Rattle.cel_reader.specs.Tree as tree
 use Rattle.cel_reader.specs.Tree.{Tree}
 use Rattle.cel_reader.specs.declared.operator.BinaryOperator.{TheVariants.And, TheVariants.NotEqual}
 use Rattle.value_store.specs.Value.{Value, ValueOrError, error, value, null, boolean, int, text, list, map, no_items}
 use Rattle.value_store.specs.Lookup.{find}
-use Rattle.cel_macros.specs.Environment.{Environment, value_or_error, lookup, root_bindings, is_root, name_value, variable_value}
+use Rattle.cel_macros.specs.Environment.{Environment, value_or_error, lookup, root_bindings, is_root, variable_value}
 use Rattle.cel_macros.specs.Comparison.{unequal_of}
 use Rattle.cel_macros.specs.Logic.{and_of}
 use Rattle.cel_macros.specs.Macros.{variables_name}
@@ -16,21 +16,24 @@ unfoldable use Rattle.cel_macros.specs.Meaning.{meaning, meanings}
 use Rattle.wide_reader.specs.Tree.{Wide}
 use Rattle.wide_reader.specs.declared.wide.Access.{Access, TheVariants.Plain, TheVariants.Optional}
 use Rattle.wide_meaning.specs.Access.{sel, field_in, has_in}
-use Rattle.wide_meaning.specs.Environment.{WideEnvironment, root_in, item_or, name_in, plain_or_failed, denotes_variables, hides_variables}
+use Rattle.wide_meaning.specs.Environment.{WideEnvironment, root_in, item_or, name_in, plain_or_failed}
+use Rattle.wide_meaning.specs.Environment.{denotes_variables, hides_variables}
 use Rattle.wide_meaning.specs.Meaning.{selected}
-use Rattle.wide_meaning.specs.Outcome.{Outcome, failed, plain as of_value, absent, present, outcome_of, optional_of, plain_part, is_present}
+use Rattle.wide_meaning.specs.Outcome.{Outcome, failed, plain as of_value, absent, present, outcome_of, optional_of}
+use Rattle.wide_meaning.specs.Outcome.{plain_part, is_present}
 use Rattle.wide_kinds.specs.declared.kind.Kind.{Kind}
 use Rattle.wide_kinds.specs.declared.kind.Kind.TheVariants as kinds
 use Rattle.wide_kinds.specs.declared.kind.ValueKind.{ValueKind}
 use Rattle.wide_kinds.specs.declared.kind.ValueKind.TheVariants as kind
 use Rattle.wide_kinds.specs.Fitting.{FitsKind, IsOfKind, IsOptionalOf}
-use Rattle.wide_translation.specs.Carried.{Carried, plain, guarded, listed, WideFault, UnknownName, Translation, taken, refused}
+use Rattle.wide_translation.specs.Carried.{Carried, plain, guarded, listed, WideFault, UnknownName, Translation}
+use Rattle.wide_translation.specs.Carried.{taken, refused}
 use Rattle.wide_translation.specs.Forms.{empty_tree, guarded_tree, present_tree, access_tree, field_list_tree}
 use Rattle.wide_translation.specs.Forms.{flat_tree, let_tree, held, is_simple, root_tree}
 use Rattle.wide_translation.specs.Holds.{guard_part, value_part, list_part, IsPlain, IsGuarded, IsListed, Carries}
-use Rattle.wide_translation.specs.Holds.{WideHolds, WideNamed, Declared, WideStandsFor}
-use Rattle.wide_translation.specs.Names.{held_name, is_taken}
-use Rattle.wide_translation.specs.Scope.{WideScope, is_hidden}
+use Rattle.wide_translation.specs.Holds.{WideHolds, WideNamed, IsApart, Declared, WideStandsFor}
+use Rattle.wide_translation.specs.Names.{held_name}
+use Rattle.wide_translation.specs.Scope.{WideScope, Place, itself, part, unused, is_hidden}
 use Rattle.wide_translation.specs.Translated.{with_carried, on_plain, with_plain, on_list, root_translation}
 use Rattle.wide_translation.specs.Translated.{name_translation, variable_translation, optional_field, field_of_list}
 use Rattle.wide_translation.specs.Translated.{present_of, field_of_guarded, field_carried, has_value_carried, has_carried}
@@ -98,29 +101,34 @@ pub root_holds : (s : WideScope) (n : List ℕ) (env : WideEnvironment) (env' : 
     → WideHolds (root_translation s n) (root_in n env.roots) env'
 root_holds s n env env' r = root_by (is_root n) s n env env' refl r
 
-name_by : (o : Option ValueKind) (i : Option Value) (n : List ℕ) (t : Translation) (x : Outcome) (env' : Environment)
-    → WideNamed o i (name_value n env') → (is_some o ≡ true → is_taken n ≡ false) → WideHolds t x env' → WideHolds (name_translation o n t) (item_or i x) env'
+name_by : (o : Option Place) (i : Option Value) (n : List ℕ) (m : ℕ) (t : Translation) (x : Outcome) (env' : Environment)
+    → WideNamed n o i env' → IsApart n o m → WideHolds t x env' → WideHolds (name_translation o n t) (item_or i x) env'
 unfolding meaning is_variables
-name_by (Some k) (Some v) n t x env' h g r = record { means = h.0; kind = h.1; free = variables_free n (g refl) }
-name_by None None n t x env' h g r = r
-name_by (Some k) None n t x env' h g r = absurd h
-name_by None (Some v) n t x env' h g r = absurd h
+name_by (Some (itself k)) (Some v) n m t x env' h g r = record { means = h.0; kind = h.1; free = variables_free n g }
+name_by (Some (part d j)) (Some v) n m t x env' h g r = record { means = h; kind = refl; free = refl }
+name_by (Some unused) i n m t x env' h g r = tt
+name_by None None n m t x env' h g r = r
+name_by (Some (itself k)) None n m t x env' h g r = absurd h
+name_by (Some (part d j)) None n m t x env' h g r = absurd h
+name_by None (Some v) n m t x env' h g r = absurd h
 
 pub name_holds : (s : WideScope) (n : List ℕ) (env : WideEnvironment) (env' : Environment) → WideStandsFor s env env'
     → WideHolds (name_translation (lookup n s.names) n (root_translation s n)) (name_in n env) env'
 name_holds s n env env' r =
-    name_by (lookup n s.names) (lookup n env.items) n (root_translation s n) (root_in n env.roots) env' (r.named n) (r.apart n) (root_holds s n env env' r)
+    name_by (lookup n s.names) (lookup n env.items) n (length s.names) (root_translation s n) (root_in n env.roots) env' (r.named n) (r.apart n) (root_holds s n env env' r)
 
 -- ---- variables
 
-hidden_by : (o : Option ValueKind) (i : Option Value) (y : ValueOrError) → WideNamed o i y → is_some o ≡ is_some i
-hidden_by (Some k) (Some v) y h = refl
-hidden_by None None y h = refl
-hidden_by (Some k) None y h = absurd h
-hidden_by None (Some v) y h = absurd h
+hidden_by : (n : List ℕ) (o : Option Place) (i : Option Value) (env : Environment) → WideNamed n o i env → is_some o ≡ is_some i
+hidden_by n (Some p) (Some v) env h = refl
+hidden_by n None None env h = refl
+hidden_by n (Some (itself k)) None env h = absurd h
+hidden_by n (Some (part d j)) None env h = absurd h
+hidden_by n (Some unused) None env h = absurd h
+hidden_by n None (Some v) env h = absurd h
 
 pub hidden_same : (s : WideScope) (env : WideEnvironment) (env' : Environment) → WideStandsFor s env env' → is_hidden s ≡ hides_variables env.items
-hidden_same s env env' r = hidden_by (lookup variables_name s.names) (lookup variables_name env.items) (name_value variables_name env') (r.named variables_name)
+hidden_same s env env' r = hidden_by variables_name (lookup variables_name s.names) (lookup variables_name env.items) env' (r.named variables_name)
 
 variable_by : (o : Option Kind) (x : Option Outcome) (f : List ℕ) (env' : Environment) → Declared o x (variable_value f env'.variables)
     → WideHolds (variable_translation o f) (unwrap_or x failed) env'

@@ -26,6 +26,6 @@ carried_is (listed j m) k a o env f h =
     subst (λ (x : Kind). IsCarried x a o env) (sym f.0) (subst (λ (x : Tree). IsListed j x o env) (sym f.1) h)
 
 pub finished_means : (s : WideScope) (e : Wide) (c : Carried) (k : Kind) (a : Tree) → taken c ≡ translated s e → IsFinished c k a → WideMeans s e k a
-finished_means s e c k a p f others env env' r =
+finished_means s e c k a p f others env env' r h =
     carried_is c k a (wide_meaning others e env) env' f
-    (subst (λ (t : Translation). WideHolds t (wide_meaning others e env) env') (sym p) (translation_same others e s env env' r))
+    (subst (λ (t : Translation). WideHolds t (wide_meaning others e env) env') (sym p) (translation_same others e s env env' r h))

@@ -9,7 +9,13 @@ pub mod ListsHold
 pub mod OptionalHold
 pub mod CallsHold
 pub mod ItemsHold
+pub mod EachItem
 pub mod RangesHold
+pub mod PairForms
+pub mod PairLists
+pub mod PairRanges
+pub mod PairFolds
+pub mod NoTable
 pub mod Same
 pub mod Policies
 pub mod Finished
@@ -18,3 +24,8 @@ pub mod Depths
 pub mod Arms
 pub mod ItemSteps
 pub mod EntrySteps
+pub mod UseSteps
+pub mod PairNames
+pub mod PairSteps
+pub mod PairArms
+pub mod PairReturns

@@ -1,6 +1,6 @@
 -- Optional values from values and from each other, and macros over them.
 use Rattle.std.specs.Prelude.{⊤}
-use Rattle.std.proofs.Common.{◌≡◌, ℕ, ◌&&◌, List, [], ◌∷◌, refl, ◌∙◌}
+use Rattle.std.proofs.Common.{◌≡◌, ℕ, ◌&&◌, List, [], ◌∷◌, refl, ap, ◌∙◌}
 use Rattle.cel_reader.specs.Tree as tree
 use Rattle.cel_reader.specs.Tree.{Tree}
 use Rattle.value_store.specs.Value.{Value, value, list, no_items}
@@ -15,15 +15,19 @@ use Rattle.wide_reader.specs.declared.wide.OptionalMacro.{OptionalMacro, TheVari
 use Rattle.wide_meaning.specs.declared.function.Qualified.{Qualified}
 use Rattle.wide_meaning.specs.declared.function.Qualified.TheVariants as qualified
 use Rattle.wide_meaning.specs.Functions.{contained, meeting, qualified_in}
-use Rattle.wide_meaning.specs.Outcome.{Outcome, failed, plain as of_value, absent, present, plain_part, some_of, first_of}
+use Rattle.wide_meaning.specs.Outcome.{Outcome, failed, plain as of_value, absent, present, plain_part, some_of}
+use Rattle.wide_meaning.specs.Outcome.{first_of}
 use Rattle.wide_meaning.specs.Ranges.{over_items, optional_over}
 use Rattle.wide_kinds.specs.declared.kind.ValueKind.{ValueKind}
 use Rattle.wide_kinds.specs.declared.kind.ValueKind.TheVariants as kind
 use Rattle.wide_kinds.specs.Kinds.{joined_kind}
 use Rattle.wide_kinds.specs.Fitting.{IsOfKind, IsOptionalOf}
 use Rattle.wide_translation.specs.Carried.{Carried, plain, guarded, listed, Translation, taken, refused}
-use Rattle.wide_translation.specs.Forms.{one_tree, empty_tree, is_empty_tree, held, guarded_tree, flat_tree, macro_tree}
-use Rattle.wide_translation.specs.Holds.{guard_part, value_part, list_part, IsPlain, IsListed, Carries, WideHolds}
+use Rattle.wide_translation.specs.Forms.{one_tree, empty_tree, is_empty_tree, held, guarded_tree, flat_tree}
+use Rattle.wide_translation.specs.Forms.{macro_tree}
+use Rattle.wide_translation.specs.Holds.{guard_part, value_part, list_part, IsPlain, IsGuarded, IsListed, Carries}
+use Rattle.wide_translation.specs.Holds.{WideHolds}
+use Rattle.wide_translation.specs.Indexed.{ForPresent}
 use Rattle.wide_translation.specs.Names.{held_name}
 use Rattle.wide_meaning.specs.Functions.{some_unless_zero}
 use Rattle.wide_translation.specs.Forms.{non_zero_tree}
@@ -34,7 +38,7 @@ use Rattle.wide_translation.specs.Lists.{second, contained_tree, meeting_tree, e
 use Rattle.wide_translation.proofs.FieldsHold.{with_plain_holds}
 use Rattle.wide_translation.proofs.ListsHold.{sets_holds, contains_test, meets_test, equivalent_test}
 use Rattle.wide_translation.proofs.OperatorsHold.{first_optional, second_optional}
-use Rattle.wide_translation.proofs.Steps.{on_value, let_means, held_is, macro_means, guarded_means, after, flat_holds}
+use Rattle.wide_translation.proofs.Steps.{on_value, let_means, held_is, macro_means, guarded_means, after, flat_for}
 
 -- the translations carry the outcomes one by one
 abbrev pub AllHold : List Translation → List Outcome → Environment → Type 0
@@ -163,21 +167,23 @@ qualified_holds qualified.SetsEquivalent n (t ∷ u ∷ []) (x ∷ y ∷ []) r e
 
 -- ---- macros
 
-mapped_one : (o : Outcome) (j : ValueKind) → IsOfKind j o → list_literal (plain_part o ∷ []) ≡ list_part (some_of o)
-mapped_one o j h = some_list j o h
+-- what a body carries for the value of an optional value
+abbrev pub OfPresent : List ℕ → Translation → (Value → Outcome) → Outcome → Environment → Type 0
+OfPresent x t f o env = ForPresent (λ v. WideHolds t (f v) (bind x v env)) o
 
-mapped_list : (f : Value → Outcome) (j : ValueKind) (o : Outcome) → ((v : Value) → IsOfKind j (f v))
-    → over_items plain_macro.Map (λ v. plain_part (f v)) (range_of (list_part o)) ≡ list_part (optional_over Map f o)
-mapped_list f j failed h = refl
-mapped_list f j (of_value v) h = refl
-mapped_list f j absent h = refl
-mapped_list f j (present v) h = mapped_one (f v) j (h v)
+mapped_list : (x : List ℕ) (b : Tree) (f : Value → Outcome) (j : ValueKind) (o : Outcome) (env : Environment) → ForPresent (λ v. IsPlain j b (f v) (bind x v env)) o
+    → over_items plain_macro.Map (λ v. meaning b (bind x v env)) (range_of (list_part o)) ≡ list_part (optional_over Map f o)
+mapped_list x b f j failed env h = refl
+mapped_list x b f j (of_value v) env h = refl
+mapped_list x b f j absent env h = refl
+mapped_list x b f j (present v) env h = ap (λ y. list_literal (y ∷ [])) h.means ∙ some_list j (f v) h.kind
 
-mapped_kind : (f : Value → Outcome) (k j : ValueKind) (o : Outcome) → IsOptionalOf k o → ((v : Value) → IsOfKind j (f v)) → IsOptionalOf j (optional_over Map f o)
-mapped_kind f k j failed h g = tt
-mapped_kind f k j absent h g = tt
-mapped_kind f k j (present v) h g = some_kind j (f v) (g v)
-mapped_kind f k j (of_value v) h g = absurd h
+mapped_kind : (x : List ℕ) (b : Tree) (f : Value → Outcome) (k j : ValueKind) (o : Outcome) (env : Environment) → IsOptionalOf k o → ForPresent (λ v. IsPlain j b (f v) (bind x v env)) o
+    → IsOptionalOf j (optional_over Map f o)
+mapped_kind x b f k j failed env h g = tt
+mapped_kind x b f k j absent env h g = tt
+mapped_kind x b f k j (present v) env h g = some_kind j (f v) g.kind
+mapped_kind x b f k j (of_value v) env h g = absurd h
 
 flat_same : (f : Value → Outcome) (k : ValueKind) (o : Outcome) → IsOptionalOf k o → list_part (after f o) ≡ list_part (optional_over FlatMap f o)
 flat_same f k failed h = refl
@@ -185,33 +191,48 @@ flat_same f k absent h = refl
 flat_same f k (present v) h = refl
 flat_same f k (of_value v) h = absurd h
 
-flat_kind : (f : Value → Outcome) (k j : ValueKind) (o : Outcome) → IsOptionalOf k o → ((v : Value) → IsOptionalOf j (f v)) → IsOptionalOf j (optional_over FlatMap f o)
-flat_kind f k j failed h g = tt
-flat_kind f k j absent h g = tt
-flat_kind f k j (present v) h g = g v
-flat_kind f k j (of_value v) h g = absurd h
+flat_kind : (x : List ℕ) (b : Tree) (f : Value → Outcome) (k j : ValueKind) (o : Outcome) (env : Environment) → IsOptionalOf k o → ForPresent (λ v. IsListed j b (f v) (bind x v env)) o
+    → IsOptionalOf j (optional_over FlatMap f o)
+flat_kind x b f k j failed env h g = tt
+flat_kind x b f k j absent env h g = tt
+flat_kind x b f k j (present v) env h g = g.kind
+flat_kind x b f k j (of_value v) env h g = absurd h
+
+present_list : (x : List ℕ) (b : Tree) (f : Value → Outcome) (j : ValueKind) (o : Outcome) (env : Environment) → ForPresent (λ v. IsListed j b (f v) (bind x v env)) o
+    → ForPresent (λ v. meaning b (bind x v env) ≡ list_part (f v)) o
+present_list x b f j failed env h = tt
+present_list x b f j (of_value v) env h = tt
+present_list x b f j absent env h = tt
+present_list x b f j (present v) env h = h.list
 
 map_holds : (x : List ℕ) (k j : ValueKind) (l b : Tree) (o : Outcome) (f : Value → Outcome) (env : Environment) → IsListed k l o env
-    → ((v : Value) → IsPlain j b (f v) (bind x v env)) → IsListed j (macro_tree plain_macro.Map x l b) (optional_over Map f o) env
+    → ForPresent (λ v. IsPlain j b (f v) (bind x v env)) o → IsListed j (macro_tree plain_macro.Map x l b) (optional_over Map f o) env
 map_holds x k j l b o f env h g = record {
-  list = macro_means plain_macro.Map x l b env ∙ (λ i. over_items plain_macro.Map (λ v. (g v).means i) (range_of (h.list i))) ∙ mapped_list f j o (λ v. (g v).kind);
-  kind = mapped_kind f k j o h.kind (λ v. (g v).kind);
+  list = macro_means plain_macro.Map x l b env ∙ (λ i. over_items plain_macro.Map (λ v. meaning b (bind x v env)) (range_of (h.list i))) ∙ mapped_list x b f j o env g;
+  kind = mapped_kind x b f k j o env h.kind g;
 }
 
 flat_map_holds : (x : List ℕ) (k j : ValueKind) (l b : Tree) (o : Outcome) (f : Value → Outcome) (env : Environment) → IsListed k l o env
-    → ((v : Value) → IsListed j b (f v) (bind x v env)) → IsListed j (flat_tree x l b) (optional_over FlatMap f o) env
+    → ForPresent (λ v. IsListed j b (f v) (bind x v env)) o → IsListed j (flat_tree x l b) (optional_over FlatMap f o) env
 flat_map_holds x k j l b o f env h g = record {
-  list = flat_holds x l b f o env h.list (λ v. (g v).list) ∙ flat_same f k o h.kind;
-  kind = flat_kind f k j o h.kind (λ v. (g v).kind);
+  list = flat_for x l b f o env h.list (present_list x b f j o env g) ∙ flat_same f k o h.kind;
+  kind = flat_kind x b f k j o env h.kind g;
 }
 
+present_guarded : (x : List ℕ) (j : ValueKind) (a b : Tree) (o : Outcome) (f : Value → Outcome) (env : Environment) → ForPresent (λ v. IsGuarded j a b (f v) (bind x v env)) o
+    → ForPresent (λ v. IsListed j (guarded_tree a b) (f v) (bind x v env)) o
+present_guarded x j a b failed f env g = tt
+present_guarded x j a b (of_value v) f env g = tt
+present_guarded x j a b absent f env g = tt
+present_guarded x j a b (present v) f env g = record { list = guarded_means a b (f v) (bind x v env) g.guard g.value; kind = g.kind }
+
 pub optional_holds : (m : OptionalMacro) (x : List ℕ) (k : ValueKind) (l : Tree) (t : Translation) (o : Outcome) (f : Value → Outcome) (env : Environment) → IsListed k l o env
-    → ((v : Value) → WideHolds t (f v) (bind x v env)) → WideHolds (with_carried t (optional_carried m x l)) (optional_over m f o) env
+    → OfPresent x t f o env → WideHolds (with_carried t (optional_carried m x l)) (optional_over m f o) env
 optional_holds m x k l (refused e) o f env h g = tt
 optional_holds Map x k l (taken (plain j b)) o f env h g = map_holds x k j l b o f env h g
 optional_holds Map x k l (taken (guarded j a b)) o f env h g = tt
 optional_holds Map x k l (taken (listed j b)) o f env h g = tt
 optional_holds FlatMap x k l (taken (plain j b)) o f env h g = tt
 optional_holds FlatMap x k l (taken (guarded j a b)) o f env h g =
-    flat_map_holds x k j l (guarded_tree a b) o f env h (λ v. record { list = guarded_means a b (f v) (bind x v env) (g v).guard (g v).value; kind = (g v).kind })
+    flat_map_holds x k j l (guarded_tree a b) o f env h (present_guarded x j a b o f env g)
 optional_holds FlatMap x k l (taken (listed j b)) o f env h g = flat_map_holds x k j l b o f env h g

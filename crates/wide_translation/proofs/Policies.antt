@@ -15,13 +15,16 @@ use Rattle.wide_reader.specs.Tree.{Wide}
 use Rattle.wide_meaning.specs.Environment.{WideEnvironment, root_in, plain_or_failed}
 use Rattle.wide_meaning.specs.Meaning.{wide_meaning}
 use Rattle.wide_meaning.specs.Outcome.{Outcome, plain_part}
-use Rattle.wide_kinds.specs.declared.kind.Kind.{Kind, TheVariants.Value as OfValue, TheVariants.Optional as OfOptional}
+use Rattle.wide_kinds.specs.declared.kind.Kind.{Kind, TheVariants.Value as OfValue}
+use Rattle.wide_kinds.specs.declared.kind.Kind.{TheVariants.Optional as OfOptional}
 use Rattle.wide_translation.specs.Scope.{scope_of, condition_scope}
-use Rattle.wide_translation.specs.Forms.{null_tree, placed_tree}
+use Rattle.wide_translation.specs.Forms.{null_tree, placed_tree, root_tree}
 use Rattle.wide_translation.specs.Holds.{Declared, WideStandsFor}
 use Rattle.wide_translation.specs.Names.{namespace_name, params_name, params_field}
 use Rattle.wide_translation.specs.Placed.{placed, condition_roots, wide_environment, environment, WideStep, kind_of, AreTranslated}
-use Rattle.wide_translation.specs.Placed.{with_outcome, with_value, PolicyMeansTheSame, ConditionMeansTheSame}
+use Rattle.wide_translation.specs.Placed.{with_outcome, with_value, table_in, AreTabled, PolicyMeansTheSame, ConditionMeansTheSame}
+use Rattle.wide_translation.specs.Indexed.{IsTabled}
+use Rattle.wide_translation.specs.Pairs.{table_tree}
 use Rattle.wide_translation.specs.Results.{WideMeans, IsCarried}
 
 -- ---- roots
@@ -45,33 +48,6 @@ rooted : (w : Bool) (n : List ℕ) (ts : Value) (roots : Roots) (vs : List (List
 unfolding meaning name_value
 rooted true n ts roots vs = root_by (bytes_eq params_name n) n ts roots vs refl
 rooted false n ts roots vs = part_of_option (lookup n (root_bindings roots))
-
--- ---- match conditions
-
--- a name that is not `namespaceObject`
-other_than_namespace : (n : List ℕ) (roots : Roots) → bytes_eq namespace_name n ≡ false
-    → lookup n (root_bindings roots) ≡ lookup n (root_bindings (condition_roots roots))
-other_than_namespace n roots h = grind (arith, h)
-
-condition_by : (b : Bool) (w : Bool) (n : List ℕ) (ts : Value) (roots : Roots) → bytes_eq namespace_name n ≡ b
-    → meaning (if b then null_tree else placed_tree w n) (environment (placed w ts roots) []) ≡ plain_part (root_in n (condition_roots roots))
-unfolding meaning meanings is_has function_named
-condition_by true w n ts roots h = ap (λ m. plain_part (root_in m (condition_roots roots))) ((bytes_decides namespace_name n).0 h)
-condition_by false w n ts roots h = rooted w n ts roots [] ∙ ap (λ o. plain_part (plain_or_failed o)) (other_than_namespace n roots h)
-
-condition_stands : (w : Bool) (ts : Value) (roots : Roots)
-    → WideStandsFor (condition_scope w) (wide_environment (condition_roots roots) []) (environment (placed w ts roots) [])
-unfolding variable_value
-condition_stands w ts roots = record {
-  named = λ n. tt;
-  rooted = λ n g. condition_by (bytes_eq namespace_name n) w n ts roots refl;
-  declared = λ n. tt;
-  apart = λ n i. absurd (cc);
-}
-
-pub condition_same : ConditionMeansTheSame
-condition_same others w ts roots e k a m =
-    m others (wide_environment (condition_roots roots) []) (environment (placed w ts roots) []) (condition_stands w ts roots)
 
 -- ---- variables
 
@@ -111,7 +87,7 @@ stands w ts roots ds h = record {
   named = λ n. tt;
   rooted = λ n g. rooted w n ts roots (results ds);
   declared = λ n. declared ds n h;
-  apart = λ n i. absurd (cc);
+  apart = λ n. tt;
 }
 
 coded : (k : Kind) (a : Tree) (o : Outcome) (env : Environment) → IsCarried k a o env → Declared (Some k) (Some o) (meaning a env)
@@ -126,6 +102,51 @@ map_more : {A : Type 0} (f : Defined → A) (ds : List Defined) (d : Defined) �
 map_more f [] d = refl
 map_more f (e ∷ ds) d = λ j. f e ∷ map_more f ds d j
 
+-- ---- the table of indices
+
+tabled : (others : Wide → WideEnvironment → Outcome) (w : Bool) (e : Wide) (ts : Value) (roots : Roots) (os : List (List ℕ × Outcome)) (vs : List (List ℕ × ValueOrError))
+    → IsTabled others w e (wide_environment roots os) (table_in ts) → IsTabled others w e (wide_environment roots os) (meaning table_tree (environment (placed w ts roots) vs))
+unfolding meaning is_variables name_value
+tabled others true e ts roots os vs h = h
+tabled others false e ts roots os vs h = λ q. absurd (cc)
+
+-- ---- match conditions
+
+-- a name that is not `namespaceObject`
+other_than_namespace : (n : List ℕ) (roots : Roots) → bytes_eq namespace_name n ≡ false
+    → lookup n (root_bindings roots) ≡ lookup n (root_bindings (condition_roots roots))
+other_than_namespace n roots h = grind (arith, h)
+
+condition_by : (b : Bool) (w : Bool) (n : List ℕ) (ts : Value) (roots : Roots) → bytes_eq namespace_name n ≡ b
+    → meaning (if b then null_tree else placed_tree w n) (environment (placed w ts roots) []) ≡ plain_part (root_in n (condition_roots roots))
+unfolding meaning meanings is_has function_named
+condition_by true w n ts roots h = ap (λ m. plain_part (root_in m (condition_roots roots))) ((bytes_decides namespace_name n).0 h)
+condition_by false w n ts roots h = rooted w n ts roots [] ∙ ap (λ o. plain_part (plain_or_failed o)) (other_than_namespace n roots h)
+
+condition_stands : (w : Bool) (ts : Value) (roots : Roots)
+    → WideStandsFor (condition_scope w) (wide_environment (condition_roots roots) []) (environment (placed w ts roots) [])
+unfolding variable_value
+condition_stands w ts roots = record {
+  named = λ n. tt;
+  rooted = λ n g. condition_by (bytes_eq namespace_name n) w n ts roots refl;
+  declared = λ n. tt;
+  apart = λ n. tt;
+}
+
+condition_tabled : (others : Wide → WideEnvironment → Outcome) (w : Bool) (e : Wide) (ts : Value) (roots : Roots)
+    → IsTabled others w e (wide_environment (condition_roots roots) []) (table_in ts)
+    → IsTabled others w e (wide_environment (condition_roots roots) []) (meaning table_tree (environment (placed w ts roots) []))
+unfolding meaning is_variables name_value
+condition_tabled others true e ts roots h = h
+condition_tabled others false e ts roots h = λ q. absurd (cc)
+
+pub condition_same : ConditionMeansTheSame
+condition_same others w ts roots e k a m b =
+    m others (wide_environment (condition_roots roots) []) (environment (placed w ts roots) []) (condition_stands w ts roots)
+    (condition_tabled others w e ts roots b)
+
+-- ---- policies
+
 module _ (others : Wide → WideEnvironment → Outcome) (w : Bool) (ts : Value) (roots : Roots) where
   abbrev next : List Defined → WideStep → Defined
   next ds v = record {
@@ -137,15 +158,16 @@ module _ (others : Wide → WideEnvironment → Outcome) (w : Bool) (ts : Value)
 
   -- the remaining variables after those that are defined
   after : (vs : List WideStep) (ds : List Defined) (e : Wide) (k : Kind) (a : Tree) → AreCoded ds → AreTranslated w (kinds ds) vs → WideMeans (scope_of w (kinds ds ++ map kind_of vs)) e k a
+      → AreTabled others w ts roots (outcomes ds) vs e
       → IsCarried k a (wide_meaning others e (wide_environment roots (fold (with_outcome others roots) (outcomes ds) vs)))
       (environment (placed w ts roots) (fold (with_value (placed w ts roots)) (results ds) vs))
-  after [] ds e k a h t m =
+  after [] ds e k a h t m b =
       (let n : WideMeans (scope_of w (kinds ds)) e k a = subst (λ (ks : List (List ℕ × Kind)). WideMeans (scope_of w ks) e k a) (append-nil (kinds ds)) m in
-      n others (wide_environment roots (outcomes ds)) (environment (placed w ts roots) (results ds)) (stands w ts roots ds h))
-  after (v ∷ vs) ds e k a h t m =
+      n others (wide_environment roots (outcomes ds)) (environment (placed w ts roots) (results ds)) (stands w ts roots ds h) (tabled others w e ts roots (outcomes ds) (results ds) b))
+  after (v ∷ vs) ds e k a h t m b =
       let d : Defined = next ds v in
       let is : IsCarried v.kind v.tree d.outcome (environment (placed w ts roots) (results ds))
-      = t.0 others (wide_environment roots (outcomes ds)) (environment (placed w ts roots) (results ds)) (stands w ts roots ds h) in
+      = t.0 others (wide_environment roots (outcomes ds)) (environment (placed w ts roots) (results ds)) (stands w ts roots ds h) (tabled others w v.wide ts roots (outcomes ds) (results ds) b.0) in
       let more : AreCoded (ds ++ d ∷ []) = one_more ds d h (coded v.kind v.tree d.outcome (environment (placed w ts roots) (results ds)) is) in
       let ks : kinds (ds ++ d ∷ []) ≡ kinds ds ++ kind_of v ∷ [] = map_more (λ x. (x.name, x.kind)) ds d in
       let os : outcomes (ds ++ d ∷ []) ≡ outcomes ds ++ (d.name, d.outcome) ∷ [] = map_more (λ x. (x.name, x.outcome)) ds d in
@@ -154,7 +176,8 @@ module _ (others : Wide → WideEnvironment → Outcome) (w : Bool) (ts : Value)
       let whole : (kinds ds ++ kind_of v ∷ []) ++ map kind_of vs ≡ kinds ds ++ kind_of v ∷ map kind_of vs = append_assoc (kinds ds) (kind_of v ∷ []) (map kind_of vs) in
       let means : WideMeans (scope_of w (kinds (ds ++ d ∷ []) ++ map kind_of vs)) e k a
       = subst (λ (x : List (List ℕ × Kind)). WideMeans (scope_of w x) e k a) (sym (ap (λ y. y ++ map kind_of vs) ks ∙ whole)) m in
-      let rest = after vs (ds ++ d ∷ []) e k a more later means in
+      let long : AreTabled others w ts roots (outcomes (ds ++ d ∷ [])) vs e = subst (λ (x : List (List ℕ × Outcome)). AreTabled others w ts roots x vs e) (sym os) b.1 in
+      let rest = after vs (ds ++ d ∷ []) e k a more later means long in
       let moved : IsCarried k a (wide_meaning others e (wide_environment roots (fold (with_outcome others roots) (outcomes ds ++ (d.name, d.outcome) ∷ []) vs)))
       (environment (placed w ts roots) (fold (with_value (placed w ts roots)) (results (ds ++ d ∷ [])) vs))
       = subst (λ (x : List (List ℕ × Outcome)). IsCarried k a (wide_meaning others e (wide_environment roots (fold (with_outcome others roots) x vs)))
@@ -163,4 +186,4 @@ module _ (others : Wide → WideEnvironment → Outcome) (w : Bool) (ts : Value)
       (environment (placed w ts roots) (fold (with_value (placed w ts roots)) x vs))) rs moved
 
 pub policy_same : PolicyMeansTheSame
-policy_same others w ts roots vs e k a t m = after others w ts roots vs [] e k a tt t m
+policy_same others w ts roots vs e k a t m b = after others w ts roots vs [] e k a tt t m b

@@ -1,6 +1,7 @@
 -- Indices, and macros over ranges.
 use Rattle.std.specs.Prelude.{⊤}
-use Rattle.std.proofs.Common.{◌≡◌, ℕ, Bool, true, false, List, Option, Some, None, pos, if◌then◌else◌, refl, ap, sym, ◌∙◌, subst}
+use Rattle.std.proofs.Common.{◌≡◌, ℕ, Bool, true, false, List, Option, Some, None, pos, if◌then◌else◌, refl, ap, sym}
+use Rattle.std.proofs.Common.{◌∙◌, subst}
 use Rattle.cel_reader.specs.Tree as tree
 use Rattle.cel_reader.specs.Tree.{Tree}
 use Rattle.value_store.specs.Value.{Value, ValueOrError, error, value, null, boolean, int, text, list, map}
@@ -25,6 +26,8 @@ use Rattle.wide_kinds.specs.Fitting.{FitsKind, IsOfKind, IsOptionalOf}
 use Rattle.wide_translation.specs.Carried.{Carried, plain, guarded, listed, Translation, taken, refused}
 use Rattle.wide_translation.specs.Forms.{macro_tree, filter_map_tree}
 use Rattle.wide_translation.specs.Holds.{IsPlain, Carries, WideHolds}
+use Rattle.wide_translation.specs.Indexed.{ForEach}
+use Rattle.wide_translation.proofs.EachItem.{each_then, over_same, where_same}
 use Rattle.wide_translation.specs.Translated.{plain_index, text_index, count_index, index_carried, macro_kind}
 use Rattle.wide_translation.specs.Translated.{field_carried, on_plain, with_plain}
 use Rattle.wide_translation.proofs.FieldsHold.{plain_holds, on_plain_holds, field_holds}
@@ -136,25 +139,25 @@ index_holds None None o c d x y env e g h i = index_by o c d x y env h i
 
 -- ---- macros
 
-two_by : (b c : Bool) → FitsKind kind.Bool (if b then value (boolean false) else (if c then value (boolean true) else error))
+pub two_by : (b c : Bool) → FitsKind kind.Bool (if b then value (boolean false) else (if c then value (boolean true) else error))
 two_by true c = refl
 two_by false true = refl
 two_by false false = tt
 
-two_other : (b c : Bool) → FitsKind kind.Bool (if b then value (boolean true) else (if c then value (boolean false) else error))
+pub two_other : (b c : Bool) → FitsKind kind.Bool (if b then value (boolean true) else (if c then value (boolean false) else error))
 two_other true c = refl
 two_other false true = refl
 two_other false false = tt
 
-one_by : (b c : Bool) → FitsKind kind.Bool (if b then error else value (boolean c))
+pub one_by : (b c : Bool) → FitsKind kind.Bool (if b then error else value (boolean c))
 one_by true c = tt
 one_by false c = refl
 
-list_by : (b : Bool) (x : ValueOrError) → FitsKind kind.List x → FitsKind kind.List (if b then error else x)
+pub list_by : (b : Bool) (x : ValueOrError) → FitsKind kind.List x → FitsKind kind.List (if b then error else x)
 list_by true x h = tt
 list_by false x h = h
 
-literal_kind : (vs : Option (List Value)) → FitsKind kind.List (list_or_error vs)
+pub literal_kind : (vs : Option (List Value)) → FitsKind kind.List (list_or_error vs)
 literal_kind (Some vs) = refl
 literal_kind None = tt
 
@@ -173,29 +176,47 @@ filter_kind p f (Some is) =
     let kept : List Value = filter (λ x. is_yes (truth (p x))) is in
     list_by (list_any (λ x. is_other (truth (p x))) is) (list_or_error (values_in (each f kept))) (literal_kind (values_in (each f kept)))
 
--- what follows from a body under a binding
-pub over_holds : (x : List ℕ) (t : Translation) (p : Value → Outcome) (f : ValueKind → Tree → Translation) (o : Outcome) (env : Environment)
-    → ((v : Value) → WideHolds t (p v) (bind x v env)) → ((j : ValueKind) (b : Tree) → ((v : Value) → IsPlain j b (p v) (bind x v env)) → WideHolds (f j b) o env)
+-- what a body carries for each item of a range
+abbrev pub EachItem : List ℕ → Translation → (Value → Outcome) → Outcome → Environment → Type 0
+EachItem x t p r env = ForEach (λ v. WideHolds t (p v) (bind x v env)) (range_of (plain_part r))
+
+-- a tree means a value for each item
+abbrev EachMeans : List ℕ → ValueKind → Tree → (Value → Outcome) → Outcome → Environment → Type 0
+EachMeans x j b p r env = ForEach (λ v. IsPlain j b (p v) (bind x v env)) (range_of (plain_part r))
+
+-- what follows from a body
+pub over_holds : (x : List ℕ) (t : Translation) (p : Value → Outcome) (f : ValueKind → Tree → Translation) (r o : Outcome) (env : Environment)
+    → EachItem x t p r env → ((j : ValueKind) (b : Tree) → EachMeans x j b p r env → WideHolds (f j b) o env)
     → WideHolds (with_plain t f) o env
-over_holds x (refused e) p f o env h g = tt
-over_holds x (taken (plain j b)) p f o env h g = g j b h
-over_holds x (taken (guarded j a b)) p f o env h g = tt
-over_holds x (taken (listed j l)) p f o env h g = tt
+over_holds x (refused e) p f r o env h g = tt
+over_holds x (taken (plain j b)) p f r o env h g = g j b h
+over_holds x (taken (guarded j a b)) p f r o env h g = tt
+over_holds x (taken (listed j l)) p f r o env h g = tt
+
+each_value : (x : List ℕ) (j : ValueKind) (b : Tree) (p : Value → Outcome) (r : Outcome) (env : Environment) → EachMeans x j b p r env
+    → ForEach (λ v. meaning b (bind x v env) ≡ plain_part (p v)) (range_of (plain_part r))
+each_value x j b p r env h =
+    each_then (λ v. IsPlain j b (p v) (bind x v env)) (λ v. meaning b (bind x v env) ≡ plain_part (p v)) (range_of (plain_part r)) h (λ v i. i.means)
 
 pub fold_holds : (m : Macro) (x : List ℕ) (k j : ValueKind) (a b : Tree) (r : Outcome) (p : Value → Outcome) (env : Environment) → IsPlain k a r env
-    → ((v : Value) → IsPlain j b (p v) (bind x v env))
+    → EachMeans x j b p r env
     → IsPlain (macro_kind m) (macro_tree (plain_macro_of m) x a b) (outcome_of (over_items (plain_macro_of m) (λ v. plain_part (p v)) (range_of (plain_part r)))) env
 unfolding is_variables
 fold_holds m x k j a b r p env h i =
     plain_holds (macro_kind m) (macro_tree (plain_macro_of m) x a b) (over_items (plain_macro_of m) (λ v. plain_part (p v)) (range_of (plain_part r))) env
-    (macro_means (plain_macro_of m) x a b env ∙ (λ l. over_items (plain_macro_of m) (λ v. (i v).means l) (range_of (h.means l))))
+    (macro_means (plain_macro_of m) x a b env
+    ∙ (λ l. over_items (plain_macro_of m) (λ v. meaning b (bind x v env)) (range_of (h.means l)))
+    ∙ over_same (plain_macro_of m) (λ v. meaning b (bind x v env)) (λ v. plain_part (p v)) (range_of (plain_part r)) (each_value x j b p r env i))
     (over_kind m (λ v. plain_part (p v)) (range_of (plain_part r))) refl
 
 pub filter_map_holds : (x : List ℕ) (k j i : ValueKind) (a b c : Tree) (r : Outcome) (p t : Value → Outcome) (env : Environment) → IsPlain k a r env
-    → ((v : Value) → IsPlain j b (p v) (bind x v env)) → ((v : Value) → IsPlain i c (t v) (bind x v env))
+    → EachMeans x j b p r env → EachMeans x i c t r env
     → IsPlain kind.List (filter_map_tree x a b c) (outcome_of (filter_map_over (λ v. plain_part (p v)) (λ v. plain_part (t v)) (range_of (plain_part r)))) env
 unfolding is_variables
 filter_map_holds x k j i a b c r p t env h g q =
     plain_holds kind.List (filter_map_tree x a b c) (filter_map_over (λ v. plain_part (p v)) (λ v. plain_part (t v)) (range_of (plain_part r))) env
-    (filter_map_means x a b c env ∙ (λ l. filter_map_over (λ v. (g v).means l) (λ v. (q v).means l) (range_of (h.means l))))
+    (filter_map_means x a b c env
+    ∙ (λ l. filter_map_over (λ v. meaning b (bind x v env)) (λ v. meaning c (bind x v env)) (range_of (h.means l)))
+    ∙ where_same (λ v. meaning b (bind x v env)) (λ v. plain_part (p v)) (λ v. meaning c (bind x v env)) (λ v. plain_part (t v)) (range_of (plain_part r))
+    (each_value x j b p r env g) (each_value x i c t r env q))
     (filter_kind (λ v. plain_part (p v)) (λ v. plain_part (t v)) (range_of (plain_part r))) refl

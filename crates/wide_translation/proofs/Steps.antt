@@ -5,7 +5,8 @@ use Rattle.cel_reader.specs.Tree as tree
 use Rattle.cel_reader.specs.Tree.{Tree}
 use Rattle.cel_reader.specs.Words.{is_selector}
 use Rattle.cel_reader.specs.declared.operator.BinaryOperator.{TheVariants.In}
-use Rattle.value_store.specs.Value.{Value, ValueOrError, error, value, null, boolean, int, text, list, map, no_items, item, Entries}
+use Rattle.value_store.specs.Value.{Value, ValueOrError, error, value, null, boolean, int, text, list, map, no_items}
+use Rattle.value_store.specs.Value.{item, Entries}
 use Rattle.value_store.specs.Lookup.{find}
 use Rattle.cel_macros.specs.Environment.{Environment, bind, value_or_error}
 use Rattle.cel_macros.specs.Arithmetic.{sum_of}
@@ -28,6 +29,7 @@ use Rattle.wide_meaning.specs.Ranges.{over_items, filter_map_over}
 use Rattle.wide_translation.specs.Forms.{one_tree, macro_tree, filter_map_tree, let_tree, held, has_tree, access_tree}
 use Rattle.wide_translation.specs.Forms.{present_tree, field_list_tree, guarded_tree, flat_tree, is_simple}
 use Rattle.wide_translation.specs.Holds.{guard_part, value_part, list_part}
+use Rattle.wide_translation.specs.Indexed.{ForPresent}
 use Rattle.wide_translation.specs.Names.{held_name}
 use Rattle.wide_translation.specs.Translated.{once, present_of}
 use Rattle.wide_translation.proofs.Environments.{this_name}
@@ -312,6 +314,19 @@ pub flat_holds : (x : List ℕ) (l r : Tree) (f : Value → Outcome) (o : Outcom
     → ((v : Value) → meaning r (bind x v env) ≡ list_part (f v)) → meaning (flat_tree x l r) env ≡ list_part (after f o)
 flat_holds x l r f o env hl hr =
     flat_means x l r env ∙ (λ j. flat_of (λ v. hr v j) (hl j)) ∙ flat_part f o
+
+-- the same if the second tree is right for the value, if there is one
+flat_present : (w : Value → ValueOrError) (f : Value → Outcome) (o : Outcome) → ForPresent (λ v. w v ≡ list_part (f v)) o → flat_of w (list_part o) ≡ list_part (after f o)
+flat_present w f failed h = refl
+flat_present w f (plain v) h = refl
+flat_present w f absent h = refl
+flat_present w f (present v) h =
+    ap (λ y. index_of (sum_of (list_literal (y ∷ [])) (value (list (item (list no_items) no_items)))) (value (int (pos 0)))) h ∙ flat_one (f v)
+
+pub flat_for : (x : List ℕ) (l r : Tree) (f : Value → Outcome) (o : Outcome) (env : Environment) → meaning l env ≡ list_part o
+    → ForPresent (λ v. meaning r (bind x v env) ≡ list_part (f v)) o → meaning (flat_tree x l r) env ≡ list_part (after f o)
+flat_for x l r f o env hl hr =
+    flat_means x l r env ∙ (λ j. flat_of (λ v. meaning r (bind x v env)) (hl j)) ∙ flat_present (λ v. meaning r (bind x v env)) f o hr
 
 pub field_list_held : (f : List ℕ) (v : Value) (env : Environment) → meaning (field_list_tree held f) (bind held_name v env) ≡ list_part (sel v f)
 field_list_held f v env = field_list_means f held (bind held_name v env) held_is_no_variables ∙ ap (λ x. list_part (field_outcome x f)) (held_is v env)

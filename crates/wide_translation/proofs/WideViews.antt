@@ -7,9 +7,11 @@ use Rattle.std.specs.declared.vec.Vec.{Vec}
 use Rattle.wide_reader.specs.Tree as wide
 use Rattle.wide_reader.specs.Tree.{Wide, view, view_step, wides, items, entries, item_view, entry_view}
 use Rattle.wide_reader.specs.declared.wide.Access.{Access}
+use Rattle.wide_reader.specs.declared.wide.PairMacro.{PairMacro}
 use Rattle.wide_reader.specs.declared.wide.Wide as code
 use Rattle.wide_reader.specs.declared.wide.Wide.{Wide as CodeWide, TheVariants.rolls-Call, TheVariants.rolls-Method}
 use Rattle.wide_reader.specs.declared.wide.Wide.{TheVariants.rolls-List, TheVariants.rolls-Map}
+use Rattle.wide_reader.specs.declared.wide.Wide.{TheVariants.rolls-PairFold, TheVariants.rolls-PairFilterMap}
 use Rattle.wide_reader.specs.declared.wide.Wide.TheFolds.{fold-roll-Wide}
 
 pub view_call : (name : String Global) (arguments : Vec CodeWide Global) → view (code.Call name arguments) ≡ wide.call (string_bytes name) (wides (map view arguments.items))
@@ -24,3 +26,13 @@ view_list given = ap view (sym (rolls-List given)) ∙ fold-roll-Wide Wide view_
 
 pub view_map : (pairs : Vec (Access × CodeWide × CodeWide) Global) → view (code.Map pairs) ≡ wide.map (entries (map entry_view pairs.items))
 view_map pairs = ap view (sym (rolls-Map pairs)) ∙ fold-roll-Wide Wide view_step _
+
+pub view_pair_fold : (m : PairMacro) (range : Box CodeWide Global) (key value : String Global) (part : Box CodeWide Global)
+    → view (code.PairFold m range key value part) ≡ wide.pair_fold m (view range.value) (string_bytes key) (string_bytes value) (view part.value)
+view_pair_fold m range key value part = ap view (sym (rolls-PairFold m range key value part)) ∙ fold-roll-Wide Wide view_step _
+
+pub view_pair_filter_map : (range : Box CodeWide Global) (key value : String Global) (predicate transform : Box CodeWide Global)
+    → view (code.PairFilterMap range key value predicate transform)
+    ≡ wide.pair_filter_map (view range.value) (string_bytes key) (string_bytes value) (view predicate.value) (view transform.value)
+view_pair_filter_map range key value predicate transform =
+    ap view (sym (rolls-PairFilterMap range key value predicate transform)) ∙ fold-roll-Wide Wide view_step _

@@ -11,12 +11,14 @@ pub data Carried : Type 0 where
   listed : ValueKind → Tree → Carried
 
 -- why an expression is not translated: a name that has no meaning here; an optional value in the place of a value;
--- an iteration name that the translation needs; an unsigned int; an optional entry whose key is no text literal, or more than three of them in a map; a form that is not translated
+-- an iteration name that the translation needs; an unsigned int; the indices of a list as values of an iteration name;
+-- an optional entry whose key is no text literal, or more than three of them in a map; a form that is not translated
 pub data WideFault : Type 0 where
   UnknownName : List ℕ → WideFault
   OptionalValue : WideFault
   TakenName : List ℕ → WideFault
   UnsignedInt : WideFault
+  NeedsIndices : WideFault
   OptionalEntry : WideFault
   Unsupported : WideFault
 

@@ -1,20 +1,50 @@
--- Translations of optional entries and of functions of lists, worked out by hand.
+-- Translations of macros with two names, of optional entries and of functions of lists, worked out by hand.
 use Rattle.std.specs.Prelude.{[], ◌∷◌, codes}
 use Rattle.cel_reader.specs.Tree.{binary, ternary, index}
 use Rattle.cel_reader.specs.Written as plain
-use Rattle.cel_reader.specs.declared.operator.BinaryOperator.TheVariants.{And, Subtract, LessEqual}
+use Rattle.cel_reader.specs.declared.operator.BinaryOperator.TheVariants.{And, Or, Subtract, NotEqual, LessEqual}
 use Rattle.wide_reader.specs.Tree as wide
 use Rattle.wide_reader.specs.declared.wide.Access.{TheVariants.Plain, TheVariants.Optional}
+use Rattle.wide_reader.specs.declared.wide.PairMacro.TheVariants as pair
 use Rattle.wide_kinds.specs.declared.kind.ValueKind.TheVariants as kind
 use Rattle.wide_meaning.specs.Written.{num, str, yes, name, dot, maybe, method, or_value, list_literal, object_spec}
-use Rattle.wide_translation.specs.Carried.{OptionalEntry}
+use Rattle.wide_translation.specs.Carried.{TakenName, NeedsIndices, OptionalEntry}
 use Rattle.wide_translation.specs.Written.{Becomes, BecomesWithTables, WideIsRefused, plain_spec, plain_field}
-use Rattle.wide_translation.specs.Written.{is_there, plain_index, item_of, let_in, list_in, first_held}
-use Rattle.wide_translation.specs.Written.{second_held, all_in, maybe_entry, nothing_in, unless_empty}
+use Rattle.wide_translation.specs.Written.{is_there, map_a, plain_a, plain_index, item_of, each_index, indices_of}
+use Rattle.wide_translation.specs.Written.{let_in, list_in, first_held, second_held, all_in, maybe_entry}
+use Rattle.wide_translation.specs.Written.{pair_of_spec, values_of_a, pairs_of_a, pairs, same, plain_same, nothing_in}
+use Rattle.wide_translation.specs.Written.{spec_is_list, unless_empty}
 
 pub record FormRowsHold : Type 0 where
-  -- with tables: params.max
+  -- object.spec.exists(i, v, v == '')
+  pub second_name : Becomes (pairs pair.Exists object_spec "i" "v" (same (name "v") (str ""))) kind.Bool
+      (plain.method (ternary spec_is_list plain_spec (each_index plain_spec (index plain_spec plain_index)))
+      "exists" (plain.name "v" ∷ plain_same (plain.name "v") (plain.str "") ∷ []))
+  -- {'a': 1}.all(k, v, k != 'b')
+  pub first_name : Becomes (pairs pair.All map_a "k" "v" (wide.binary NotEqual (name "k") (str "b"))) kind.Bool
+      (plain.method plain_a "all" (plain.name "k" ∷ binary NotEqual (plain.name "k") (plain.str "b") ∷ []))
+  -- {'a': 1}.transformList(k, v, k == v, v)
+  pub two_names : Becomes (wide.pair_filter_map map_a (codes "k") (codes "v") (same (name "k") (name "v")) (name "v")) kind.List
+      (plain.method pairs_of_a "map"
+      (plain.name "celbpf_p" ∷ plain_same (item_of "celbpf_p" 0) (item_of "celbpf_p" 1) ∷ item_of "celbpf_p" 1 ∷ []))
+  -- {'a': 1}.existsOne(k, v, {'a': 1}.all(k, w, k == w || v == w)): the inner k hides the outer one
+  pub inner_names : Becomes (pairs pair.ExistsOne map_a "k" "v"
+      (pairs pair.All map_a "k" "w" (wide.binary Or (same (name "k") (name "w")) (same (name "v") (name "w"))))) kind.Bool
+      (plain.method values_of_a "exists_one" (plain.name "v" ∷
+      plain.method pairs_of_a "all" (plain.name "celbpf_ppp" ∷
+      binary Or (plain_same (item_of "celbpf_ppp" 0) (item_of "celbpf_ppp" 1))
+      (plain_same (plain.name "v") (item_of "celbpf_ppp" 1)) ∷ []) ∷ []))
+  -- object.spec.all(k, v, k == v) and [1].exists(i, v, i == 0)
+  pub no_indices : WideIsRefused (pairs pair.All object_spec "k" "v" (same (name "k") (name "v"))) NeedsIndices
+  pub no_indices_of_list : WideIsRefused (pairs pair.Exists (list_literal (num 1 ∷ [])) "i" "v" (same (name "i") (num 0))) NeedsIndices
+  -- with tables: params.max, object.spec.exists(i, v, i == 0) and object.spec.all(k, v, v != k)
   pub wrapped : BecomesWithTables (dot (name "params") "max") kind.Dyn (plain.dot (plain.dot (plain.name "params") "v") "max")
+  pub indices : BecomesWithTables (pairs pair.Exists object_spec "i" "v" (same (name "i") (num 0))) kind.Bool
+      (plain.method (ternary spec_is_list (indices_of plain_spec) plain_spec)
+      "exists" (plain.name "i" ∷ plain_same (plain.name "i") (plain.num 0) ∷ []))
+  pub numbered : BecomesWithTables (pairs pair.All object_spec "k" "v" (wide.binary NotEqual (name "v") (name "k"))) kind.Bool
+      (plain.method (ternary spec_is_list (each_index (indices_of plain_spec) pair_of_spec) (each_index plain_spec pair_of_spec))
+      "all" (plain.name "celbpf_p" ∷ binary NotEqual (item_of "celbpf_p" 1) (item_of "celbpf_p" 0) ∷ []))
   -- {?'replicas': object.spec.?replicas, 'b': 1}, {?object.spec: object.spec.?a}, and four optional entries
   pub optional_entry : Becomes (wide.map (maybe_entry "replicas" (wide.more_entries Plain (str "b") (num 1) wide.no_entries))) kind.Map
       (ternary (is_there "replicas")
@@ -41,3 +71,5 @@ pub record FormRowsHold : Type 0 where
   pub equivalent : Becomes (method (name "sets") "equivalent" (object_spec ∷ list_literal (num 1 ∷ []) ∷ [])) kind.Bool
       (list_in "celbpf_a" plain_spec (list_in "celbpf_b" (plain.list_literal (plain.num 1 ∷ []))
       (binary And (all_in first_held second_held) (all_in second_held first_held))))
+  -- object.all(k, request, true)
+  pub taken_second : WideIsRefused (pairs pair.All (name "object") "k" "request" yes) (TakenName (codes "request"))

@@ -143,6 +143,10 @@ placed_tree wrapped n = if wrapped && bytes_eq params_name n then tree.select (t
 abbrev pub root_tree : WideScope → List ℕ → Tree
 root_tree s n = if s.condition && bytes_eq namespace_name n then null_tree else placed_tree s.wrapped n
 
+-- the item i of the pair y
+abbrev pub part_tree : List ℕ → ℕ → Tree
+part_tree y i = tree.index (tree.name y) (tree.literal (tree.int (pos i)))
+
 -- variables.f
 abbrev pub variable_tree : List ℕ → Tree
 variable_tree f = tree.select (tree.name variables_name) f

@@ -1,5 +1,5 @@
 -- When trees carry an outcome, and when an environment represents that of a wide expression.
-use Rattle.std.specs.Prelude.{◌≡◌, ℕ, true, false, List, Option, Some, None, ⊤, is_some}
+use Rattle.std.specs.Prelude.{◌≡◌, ℕ, ◌<◌, true, false, List, length, Option, Some, None, ⊤}
 use Rattle.cel_reader.specs.Tree.{Tree}
 use Rattle.value_store.specs.Value.{Value, ValueOrError, error, value, boolean, list, no_items, item}
 use Rattle.cel_macros.specs.Environment.{Environment, lookup, is_root, name_value, variable_value}
@@ -12,9 +12,9 @@ use Rattle.wide_kinds.specs.declared.kind.Kind.TheVariants as kinds
 use Rattle.wide_kinds.specs.declared.kind.ValueKind.{ValueKind}
 use Rattle.wide_kinds.specs.Fitting.{has_kind, IsOfKind, IsOptionalOf}
 use Rattle.wide_translation.specs.Carried.{Carried, plain, guarded, listed, Translation, taken, refused}
-use Rattle.wide_translation.specs.Forms.{root_tree}
-use Rattle.wide_translation.specs.Names.{is_taken}
-use Rattle.wide_translation.specs.Scope.{WideScope}
+use Rattle.wide_translation.specs.Forms.{root_tree, part_tree}
+use Rattle.wide_translation.specs.Names.{pair_name, is_taken}
+use Rattle.wide_translation.specs.Scope.{WideScope, Place, itself, part, unused}
 
 -- ---- parts of an optional value
 
@@ -69,11 +69,19 @@ WideHolds (refused e) o env = ⊤
 
 -- ---- environments
 
--- a name in scope has its value in the second environment
-abbrev pub WideNamed : Option ValueKind → Option Value → ValueOrError → Type 0
-WideNamed (Some k) (Some v) x = (x ≡ value v) × (has_kind k v ≡ true)
-WideNamed None None x = ⊤
-WideNamed _ _ x = ⊥
+-- a name in scope has its value in the second environment, where it is written
+abbrev pub WideNamed : List ℕ → Option Place → Option Value → Environment → Type 0
+WideNamed n (Some (itself k)) (Some v) env = (name_value n env ≡ value v) × (has_kind k v ≡ true)
+WideNamed n (Some (part y i)) (Some v) env = meaning (part_tree y i) env ≡ value v
+WideNamed n (Some unused) (Some v) env = ⊤
+WideNamed n None None env = ⊤
+WideNamed n _ _ env = ⊥
+
+-- a name in scope is none of those that the translation binds inside of m iteration names: a pair is that of fewer
+abbrev pub IsApart : List ℕ → Option Place → ℕ → Type 0
+IsApart n (Some (part y i)) m = (d : ℕ) × (y ≡ pair_name d) × (d < m)
+IsApart n (Some p) m = is_taken n ≡ false
+IsApart n None m = ⊤
 
 -- a variable has its value in the second environment, an optional one as a list
 abbrev pub Declared : Option Kind → Option Outcome → ValueOrError → Type 0
@@ -84,7 +92,7 @@ Declared None o x = ⊤
 
 -- the second environment has the values of the names of the first
 pub record WideStandsFor (s : WideScope) (env : WideEnvironment) (env' : Environment) : Type 0 where
-  pub named : (n : List ℕ) → WideNamed (lookup n s.names) (lookup n env.items) (name_value n env')
+  pub named : (n : List ℕ) → WideNamed n (lookup n s.names) (lookup n env.items) env'
   pub rooted : (n : List ℕ) → is_root n ≡ true → meaning (root_tree s n) env' ≡ plain_part (root_in n env.roots)
   pub declared : (n : List ℕ) → Declared (lookup n s.variables) (lookup n env.variables) (variable_value n env'.variables)
-  pub apart : (n : List ℕ) → is_some (lookup n s.names) ≡ true → is_taken n ≡ false
+  pub apart : (n : List ℕ) → IsApart n (lookup n s.names) (length s.names)

@@ -6,6 +6,9 @@ use Rattle.cel_reader.specs.declared.operator.BinaryOperator.{BinaryOperator, Th
 use Rattle.cel_reader.specs.declared.operator.BinaryOperator.{TheVariants.NotEqual, TheVariants.Subtract}
 use Rattle.wide_reader.specs.Tree as wide
 use Rattle.wide_reader.specs.Tree.{Wide}
+use Rattle.wide_translation.specs.Carried.{Carried, Translation}
+use Rattle.wide_translation.specs.Pairs.{PairUse, is_map_kind, pair_range, with_range}
+use Rattle.wide_translation.specs.Parts.{on_plain}
 use Rattle.wide_translation.specs.Forms.{empty_tree, one_tree, call_tree, macro_tree, held, first_tree, is_empty_tree}
 use Rattle.wide_translation.specs.Names.{index_name, second_name}
 use Rattle.cel_macros.specs.declared.macros.Macro.TheVariants as plain_macro
@@ -29,6 +32,10 @@ held_or_list_tree m = tree.ternary (is_empty_tree held) m held
 abbrev pub compared_uint : Bool → Wide → Option ℕ
 compared_uint true (wide.uint n) = Some n
 compared_uint _ a = None
+
+-- what follows from the range of a macro with two names over an operand
+abbrev pub ranged : Bool → PairUse → Carried → (Tree → Translation) → Translation
+ranged b u c f = on_plain c (λ k a. with_range (pair_range b u (is_map_kind k) a) f)
 
 -- whether an operator is an equality
 abbrev pub is_equality : BinaryOperator → Bool

@@ -7,10 +7,13 @@ pub mod Parts
 pub mod Declarations
 pub mod Layers
 pub mod Segments
+pub mod Uses
+pub mod Pairs
 pub mod Lists
 pub mod Translated
 pub mod Keys
 pub mod Holds
+pub mod Indexed
 pub mod Results
 pub mod Placed
 pub mod Laws

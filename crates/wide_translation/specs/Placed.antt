@@ -1,6 +1,7 @@
 -- The environment in which a policy's translations are evaluated.
-use Rattle.std.specs.Prelude.{ℕ, Bool, true, false, List, [], ◌∷◌, ◌++◌, fold, map as each, codes, ⊤}
-use Rattle.value_store.specs.Value.{Value, ValueOrError, map, entry, no_entries, null}
+use Rattle.std.specs.Prelude.{ℕ, Bool, true, false, List, [], ◌∷◌, ◌++◌, fold, map as each, ⊤}
+use Rattle.value_store.specs.Value.{Value, ValueOrError, value, map, entry, no_entries, null}
+use Rattle.cel_macros.specs.Selection.{field_of}
 use Rattle.cel_reader.specs.Tree.{Tree}
 use Rattle.cel_macros.specs.Environment.{Environment, Roots}
 use Rattle.cel_macros.specs.Meaning.{meaning}
@@ -9,13 +10,14 @@ use Rattle.wide_meaning.specs.Environment.{WideEnvironment}
 use Rattle.wide_meaning.specs.Meaning.{wide_meaning}
 use Rattle.wide_meaning.specs.Outcome.{Outcome}
 use Rattle.wide_kinds.specs.declared.kind.Kind.{Kind}
+use Rattle.wide_translation.specs.Indexed.{IsTabled}
 use Rattle.wide_translation.specs.Scope.{scope_of, condition_scope}
-use Rattle.wide_translation.specs.Names.{params_field}
+use Rattle.wide_translation.specs.Names.{params_field, tables_field, indices_field}
 use Rattle.wide_translation.specs.Results.{WideMeans, IsCarried}
 
 -- {"t": tables, "v": params}
 abbrev pub with_tables : Value → Value → Value
-with_tables ts p = map (entry (codes "t") ts (entry params_field p no_entries))
+with_tables ts p = map (entry tables_field ts (entry params_field p no_entries))
 
 -- the roots; if they are wrapped, with tables beside the parameters
 abbrev pub placed : Bool → Value → Roots → Roots
@@ -60,21 +62,35 @@ with_outcome others roots before v = before ++ (v.name, wide_meaning others v.wi
 abbrev pub with_value : Roots → List (List ℕ × ValueOrError) → WideStep → List (List ℕ × ValueOrError)
 with_value roots before v = before ++ (v.name, meaning v.tree (environment roots before)) ∷ []
 
+-- the table of indices in these tables
+abbrev pub table_in : Value → ValueOrError
+table_in ts = field_of (value ts) indices_field
+
+-- the table of indices is long enough for the variables, each evaluated after those before it, and then for e
+abbrev pub AreTabled :
+    (Wide → WideEnvironment → Outcome) → Bool → Value → Roots → List (List ℕ × Outcome) → List WideStep → Wide → Type 0
+AreTabled others wrapped ts roots before [] e = IsTabled others wrapped e (wide_environment roots before) (table_in ts)
+AreTabled others wrapped ts roots before (v ∷ vs) e =
+    IsTabled others wrapped v.wide (wide_environment roots before) (table_in ts)
+    × AreTabled others wrapped ts roots (with_outcome others roots before v) vs e
+
 -- A translation in the scope of a policy's variables carries what the wide expression means with their values,
--- whatever tables the root `params` has. So do all conditions, validations and messages.
+-- whatever tables the root `params` has besides one of indices that is long enough. So do all conditions, validations
+-- and messages.
 abbrev pub PolicyMeansTheSame : Type 0
 PolicyMeansTheSame =
     (others : Wide → WideEnvironment → Outcome) (wrapped : Bool) (ts : Value) (roots : Roots) (vs : List WideStep)
     (e : Wide) (k : Kind) (a : Tree)
     → AreTranslated wrapped [] vs → WideMeans (scope_of wrapped (each kind_of vs)) e k a
+    → AreTabled others wrapped ts roots [] vs e
     → IsCarried k a (wide_meaning others e (wide_environment roots (fold (with_outcome others roots) [] vs)))
     (environment (placed wrapped ts roots) (fold (with_value (placed wrapped ts roots)) [] vs))
 
--- A translation of a match condition carries what the wide expression means without a namespace, whatever tables the
--- root `params` has.
+-- A translation of a match condition carries what the wide expression means without a namespace, likewise.
 abbrev pub ConditionMeansTheSame : Type 0
 ConditionMeansTheSame =
     (others : Wide → WideEnvironment → Outcome) (wrapped : Bool) (ts : Value) (roots : Roots) (e : Wide) (k : Kind) (a : Tree)
     → WideMeans (condition_scope wrapped) e k a
+    → AreTabled others wrapped ts (condition_roots roots) [] [] e
     → IsCarried k a (wide_meaning others e (wide_environment (condition_roots roots) []))
     (environment (placed wrapped ts roots) [])

@@ -1,5 +1,5 @@
 -- The translation of a wide expression.
-use Rattle.std.specs.Prelude.{ℕ, pos, nat_lt, Bool, true, false, List, [], ◌∷◌, Option, Some, None, codes}
+use Rattle.std.specs.Prelude.{ℕ, pos, nat_lt, Bool, true, false, ◌||◌, List, [], ◌∷◌, Option, Some, None, codes}
 use Rattle.std.specs.Prelude.{if◌then◌else◌}
 use Rattle.cel_reader.specs.Tree as tree
 use Rattle.cel_reader.specs.Tree.{Tree, no_trees, more_trees, no_entries, more_entries}
@@ -39,7 +39,7 @@ use Rattle.wide_translation.specs.Carried.{UnsignedInt, Unsupported, Translation
 use Rattle.wide_translation.specs.Forms.{empty_tree, one_tree, call_tree, macro_tree, filter_map_tree, first_tree}
 use Rattle.wide_translation.specs.Forms.{let_tree, held, access_tree, has_any_tree, present_tree, field_list_tree, guarded_tree}
 use Rattle.wide_translation.specs.Forms.{flat_tree, is_below_tree, present_item_tree, item_tree, item_list_tree, is_empty_tree}
-use Rattle.wide_translation.specs.Forms.{text_tree, non_zero_tree, bool_tree, text_bool_tree, root_tree}
+use Rattle.wide_translation.specs.Forms.{text_tree, non_zero_tree, bool_tree, text_bool_tree, root_tree, part_tree}
 use Rattle.wide_translation.specs.Forms.{variable_tree, is_simple}
 pub use Rattle.wide_translation.specs.Parts.{with_carried, on_plain, with_plain, as_list, from_list, on_list}
 pub use Rattle.wide_translation.specs.Parts.{IsFinished, once, Parts, parts, no_parts, joined_tree, list_more}
@@ -49,7 +49,10 @@ pub use Rattle.wide_translation.specs.Parts.{keyed_more, entry_more, list_transl
 use Rattle.wide_translation.specs.Lists.{second, first_list_tree, last_list_tree, extreme_tree, contained_tree}
 use Rattle.wide_translation.specs.Lists.{meeting_tree, equivalent_tree, sets_translation}
 use Rattle.wide_translation.specs.Names.{held_name, is_taken}
-use Rattle.wide_translation.specs.Scope.{WideScope, within, is_hidden}
+use Rattle.wide_translation.specs.Scope.{WideScope, Place, itself, part, unused, within, is_hidden}
+use Rattle.wide_translation.specs.Uses.{uses}
+pub use Rattle.wide_translation.specs.Pairs.{PairUse, pair_use, pair_binder, within_pair, pair_translation}
+pub use Rattle.wide_translation.specs.Pairs.{pair_filter_translation}
 
 -- ---- names
 
@@ -57,9 +60,15 @@ use Rattle.wide_translation.specs.Scope.{WideScope, within, is_hidden}
 abbrev pub root_translation : WideScope → List ℕ → Translation
 root_translation s n = if is_root n then taken (plain kind.Dyn (root_tree s n)) else refused (UnknownName n)
 
+-- an iteration name that is written so
+abbrev pub place_translation : Place → List ℕ → Translation
+place_translation (itself k) n = taken (plain k (tree.name n))
+place_translation (part y i) n = taken (plain kind.Dyn (part_tree y i))
+place_translation unused n = refused (UnknownName n)
+
 -- an iteration name if it is in scope, else what the name denotes outside of macros
-abbrev pub name_translation : Option ValueKind → List ℕ → Translation → Translation
-name_translation (Some k) n outside = taken (plain k (tree.name n))
+abbrev pub name_translation : Option Place → List ℕ → Translation → Translation
+name_translation (Some p) n outside = place_translation p n
 name_translation None n outside = outside
 
 -- a variable of this kind
@@ -301,6 +310,10 @@ abbrev pub selected_translation : Bool → Access → List ℕ → WideScope →
 selected_translation true Plain f s t = variable_translation (lookup f s.variables) f
 selected_translation _ o f s t = with_carried t (λ c. taken (field_carried o f c))
 
+-- a translation, if the iteration name x may be bound
+abbrev pub unless_taken : List ℕ → Translation → Translation
+unless_taken x t = if is_taken x then refused (TakenName x) else t
+
 -- whether an unsigned int may be an operand
 abbrev pub compares : BinaryOperator → Bool
 compares Equal = true
@@ -348,8 +361,14 @@ unfoldable mutual
   translated s (wide.call n es) = call_translation (function_named n) n (all_translated s es)
   translated s (wide.method a n es) =
       method_translation (qualified_named (namespace_in a) n) (method_named n) n (translated s a) (all_translated s es)
-  translated s (wide.pair_fold m r k v p) = refused Unsupported
-  translated s (wide.pair_filter_map r k v p t) = refused Unsupported
+  translated s (wide.pair_fold m r k v p) =
+      let u : PairUse = pair_use (uses k p) (uses v p) in
+      unless_taken k (unless_taken v (pair_translation s.wrapped m u (pair_binder u k v s) (translated s r)
+      (translated (within_pair u k v s) p)))
+  translated s (wide.pair_filter_map r k v p t) =
+      let u : PairUse = pair_use (uses k p || uses k t) (uses v p || uses v t) in
+      unless_taken k (unless_taken v (pair_filter_translation s.wrapped u (pair_binder u k v s) (translated s r)
+      (translated (within_pair u k v s) p) (translated (within_pair u k v s) t)))
   translated s (wide.optional_fold m a x t) =
       if is_taken x then refused (TakenName x)
       else with_carried (translated s a) (λ c. on_list OptionalValue c

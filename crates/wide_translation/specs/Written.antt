@@ -3,14 +3,15 @@ use Rattle.std.specs.Prelude.{◌≡◌, ℕ, true, false, [], ◌∷◌, codes}
 use Prim.Native.String.{String}
 use Rattle.cel_reader.specs.Tree.{Tree, binary, ternary, index}
 use Rattle.cel_reader.specs.Written as plain
-use Rattle.cel_reader.specs.declared.operator.BinaryOperator.TheVariants.{And, Add, Equal, NotEqual, In}
+use Rattle.cel_reader.specs.declared.operator.BinaryOperator.TheVariants.{And, Add, Equal, NotEqual, Less, In}
 use Rattle.wide_reader.specs.Tree as wide
 use Rattle.wide_reader.specs.Tree.{Wide, WideEntries}
 use Rattle.wide_reader.specs.declared.wide.Access.{TheVariants.Optional}
+use Rattle.wide_reader.specs.declared.wide.PairMacro.{PairMacro}
 use Rattle.wide_kinds.specs.declared.kind.Kind.{TheVariants.Value}
 use Rattle.wide_kinds.specs.declared.kind.ValueKind.{ValueKind}
 use Rattle.wide_kinds.specs.declared.kind.ValueKind.TheVariants as kind
-use Rattle.wide_meaning.specs.Written.{str, maybe, object_spec}
+use Rattle.wide_meaning.specs.Written.{num, str, maybe, map_literal, object_spec}
 use Rattle.wide_translation.specs.Carried as carried
 use Rattle.wide_translation.specs.Carried.{WideFault, taken, refused}
 use Rattle.wide_translation.specs.Scope.{scope_of, condition_scope}
@@ -52,12 +53,29 @@ is_there f = binary And (binary NotEqual plain_spec plain.nothing) (plain.call "
 abbrev pub field_or_nothing : String → Tree
 field_or_nothing f = ternary (is_there f) (plain.list_literal (plain_field f ∷ [])) (plain.list_literal [])
 
--- an iteration name of the translation, and the item n of a name
+-- {'a': 1}, as a wide expression and in the compiled language
+abbrev pub map_a : Wide
+map_a = map_literal ((str "a", num 1) ∷ [])
+
+abbrev pub plain_a : Tree
+plain_a = plain.map_literal ((plain.str "a", plain.num 1) ∷ [])
+
+-- the iteration names of indices and keys, and the item n of a pair
 abbrev pub plain_index : Tree
 plain_index = plain.name "celbpf_i"
 
 abbrev pub item_of : String → ℕ → Tree
 item_of y n = index (plain.name y) (plain.num n)
+
+-- a.map(celbpf_i, t)
+abbrev pub each_index : Tree → Tree → Tree
+each_index a t = plain.method a "map" (plain_index ∷ t ∷ [])
+
+-- params.t.n.filter(celbpf_i, celbpf_i < size(a))
+abbrev pub indices_of : Tree → Tree
+indices_of a =
+    plain.method (plain.dot (plain.dot (plain.name "params") "t") "n") "filter"
+    (plain_index ∷ binary Less plain_index (plain.call "size" (a ∷ [])) ∷ [])
 
 -- [a].map(x, t)[0]
 abbrev pub let_in : String → Tree → Tree → Tree
@@ -73,6 +91,10 @@ first_held = plain.name "celbpf_a"
 abbrev pub second_held : Tree
 second_held = plain.name "celbpf_b"
 
+-- [{'a': 1}].map(celbpf_a, celbpf_a.map(celbpf_i, t))[0]
+abbrev pub of_a : Tree → Tree
+of_a t = let_in "celbpf_a" plain_a (each_index first_held t)
+
 -- a.all(celbpf_i, celbpf_i in b)
 abbrev pub all_in : Tree → Tree → Tree
 all_in a b = plain.method a "all" (plain_index ∷ binary In plain_index b ∷ [])
@@ -81,10 +103,35 @@ all_in a b = plain.method a "all" (plain_index ∷ binary In plain_index b ∷ [
 abbrev pub maybe_entry : String → WideEntries → WideEntries
 maybe_entry f more = wide.more_entries Optional (str f) (maybe object_spec f) more
 
+-- [celbpf_i, object.spec[celbpf_i]]
+abbrev pub pair_of_spec : Tree
+pair_of_spec = plain.list_literal (plain_index ∷ index plain_spec plain_index ∷ [])
+
+abbrev pub values_of_a : Tree
+values_of_a = of_a (index (plain.name "celbpf_a") plain_index)
+
+abbrev pub pairs_of_a : Tree
+pairs_of_a = of_a (plain.list_literal (plain_index ∷ index (plain.name "celbpf_a") plain_index ∷ []))
+
+-- a macro with two names
+abbrev pub pairs : PairMacro → Wide → String → String → Wide → Wide
+pairs m a k v p = wide.pair_fold m a (codes k) (codes v) p
+
+-- a == b
+abbrev pub same : Wide → Wide → Wide
+same a b = wide.binary Equal a b
+
+abbrev pub plain_same : Tree → Tree → Tree
+plain_same a b = binary Equal a b
+
 -- []
 abbrev pub nothing_in : Tree
 nothing_in = plain.list_literal []
 
+-- whether object.spec is a list
+abbrev pub spec_is_list : Tree
+spec_is_list = plain_same (each_index plain_spec plain_index) plain_spec
+
 -- t, unless the list bound to celbpf_a is empty
 abbrev pub unless_empty : Tree → Tree → Tree
-unless_empty e t = ternary (binary Equal first_held nothing_in) e t
+unless_empty e t = ternary (plain_same first_held nothing_in) e t

@@ -1,6 +1,6 @@
 //! Names in scope, and names that an iteration name must not be.
 
-ghost use Rattle.std.specs.Prelude.{◌≡◌, map};
+ghost use Rattle.std.specs.Prelude.{◌≡◌, IfOk, is_some, length, map, string_bytes};
 ghost use Rattle.cel_macros.specs.Environment as environment;
 ghost use Rattle.cel_macros.specs.Environment.{lookup};
 ghost use Rattle.cel_reader.specs.Words as words;
@@ -8,23 +8,26 @@ ghost use Rattle.wide_translation.specs.Declarations.{declaration, scope_in};
 ghost use Rattle.wide_translation.specs.Names as specs;
 ghost use Rattle.wide_translation.specs.Scope.{is_hidden};
 
+use crate::place::Place;
 use crate::scope::Variable;
 use cel_tokens::is_name;
-use wide_kinds::{Kind, ValueKind};
+use std::alloc::{AllocError, Global};
+use wide_kinds::Kind;
 
 /// The iteration name that the translation binds.
 pub(crate) const HELD: &str = "celbpf_a";
-
-/// The iteration names of items that it binds inside.
-pub(crate) const INDEX: &str = "celbpf_i";
-
-pub(crate) const SECOND: &str = "celbpf_b";
 
 /// The root of the namespace.
 pub(crate) const NAMESPACE: &str = "namespaceObject";
 
 /// The root of the parameters.
 pub(crate) const PARAMS: &str = "params";
+
+/// The iteration name of the indices or keys of a range.
+pub(crate) const INDEX: &str = "celbpf_i";
+
+/// A second iteration name that the translation binds.
+pub(crate) const SECOND: &str = "celbpf_b";
 
 /// Its field that has the parameters, if the root also has tables.
 pub(crate) const PARAMS_FIELD: &str = "v";
@@ -39,8 +42,8 @@ pub(crate) enum Names<'a> {
     Outside(&'a [Variable], bool),
     /// Outside all macros of a match condition, which may use no variable.
     Condition(bool),
-    /// Inside a macro: its iteration name, the kind of the items, and the names around it.
-    Within(&'a str, ValueKind, &'a Names<'a>),
+    /// Inside a macro: an iteration name, how it is written, and the names around it.
+    Within(&'a str, Place, &'a Names<'a>),
 }
 
 /// Whether a name may follow a dot.
@@ -63,11 +66,11 @@ pub(crate) fn is_root(name: &str) -> bool
         || name == "request"
 }
 
-/// Whether an iteration name is a root, `variables`, or the name that the translation binds.
+/// Whether an iteration name is a root, `variables`, or begins as the names that the translation binds.
 pub(crate) fn is_taken(name: &str) -> bool
     ensures { result ≡ specs.is_taken name.now }
 {
-    is_root(name) || VARIABLES == name || HELD == name
+    is_root(name) || VARIABLES == name || name.starts_with("celbpf_")
 }
 
 /// Whether the root `params` has tables beside the parameters.
@@ -91,18 +94,27 @@ pub(crate) fn is_condition(names: &Names) -> bool
     }
 }
 
-/// The kind of the items that an iteration name in scope denotes.
-pub(crate) fn item_kind(name: &str, names: &Names) -> Option<ValueKind>
-    ensures { result ≡ lookup name.now (scope_in names.now).names }
+/// Whether an iteration name of this spelling is in scope.
+fn is_bound(name: &str, names: &Names) -> bool
+    ensures { result ≡ is_some (lookup name.now (scope_in names.now).names) }
 {
     match names {
-        Names::Outside(_, _) | Names::Condition(_) => None,
-        Names::Within(first, kind, outer) => {
-            if *first == name {
-                Some(*kind)
-            } else {
-                item_kind(name, outer)
-            }
+        Names::Outside(_, _) | Names::Condition(_) => false,
+        Names::Within(first, _, outer) => *first == name || is_bound(name, outer),
+    }
+}
+
+/// The iteration name of a pair inside of these names.
+#[tactic(auto, using(crate::proofs::PairNames::outermost))]
+pub(crate) fn pair_name(alloc: Global, names: &Names) -> Result<String, AllocError>
+    ensures { IfOk result (λ n. string_bytes n ≡ specs.pair_name (length (scope_in names.now).names)) }
+{
+    match names {
+        Names::Outside(_, _) | Names::Condition(_) => String::from_str(alloc, "celbpf_p"),
+        Names::Within(_, _, outer) => {
+            let mut name = pair_name(alloc, outer)?;
+            name.push_str("p")?;
+            Ok(name)
         }
     }
 }
@@ -111,7 +123,7 @@ pub(crate) fn item_kind(name: &str, names: &Names) -> Option<ValueKind>
 pub(crate) fn hides_variables(names: &Names) -> bool
     ensures { result ≡ is_hidden (scope_in names.now) }
 {
-    item_kind(VARIABLES, names).is_some()
+    is_bound(VARIABLES, names)
 }
 
 /// The kind of the first variable of this name.

@@ -10,16 +10,17 @@ ghost use Rattle.wide_meaning.specs.Environment as environment;
 ghost use Rattle.wide_meaning.specs.Functions.{qualified_named};
 ghost use Rattle.wide_meaning.specs.Meaning.{is_empty_list, namespace_in};
 ghost use Rattle.wide_translation.specs.Carried.{plain, taken};
-ghost use Rattle.wide_translation.specs.Declarations.{ReturnsCarried, scope_in};
+ghost use Rattle.wide_translation.specs.Declarations.{ReturnsCarried, place_view, scope_in};
 ghost use Rattle.wide_translation.specs.Layers as layers;
 ghost use Rattle.wide_translation.specs.Translated as specs;
 
 use crate::calls::unknown;
 use crate::carried::Carried;
-use crate::names::{Names, VARIABLES, is_root, item_kind, variable_kind};
+use crate::names::{Names, VARIABLES, is_root, variable_kind};
+use crate::place::Place;
 use crate::translation_error::TranslationError;
 use crate::{build, copying};
-use cel_reader::Literal;
+use cel_reader::{Expr, Literal};
 use std::alloc::Global;
 use wide_kinds::{Kind, ValueKind, literal_kind};
 use wide_meaning::Qualified;
@@ -44,16 +45,41 @@ pub(crate) fn root(alloc: Global, name: &str, names: &Names) -> Result<Carried, 
     Err(unknown(alloc, name))
 }
 
-/// A name.
-pub(crate) fn name(alloc: Global, name: &str, names: &Names) -> Result<Carried, TranslationError>
-    ensures { let s = scope_in names.now in ReturnsCarried (specs.name_translation (lookup name.now s.names) name.now (specs.root_translation s name.now)) result }
+/// An iteration name that is written so.
+fn written(alloc: Global, name: &str, place: &Place) -> Result<Carried, TranslationError>
+    ensures { ReturnsCarried (specs.place_translation (place_view place.now) name.now) result }
 {
-    match item_kind(name, names) {
-        Some(kind) => {
+    match place {
+        Place::Itself(kind) => {
             let tree = build::name(alloc, name)?;
-            Ok(Carried::Plain(kind, tree))
+            Ok(Carried::Plain(*kind, tree))
         }
-        None => root(alloc, name, names),
+        Place::Key(pair) => {
+            let of = build::name(alloc, pair.as_str())?;
+            let tree = build::first(alloc, of)?;
+            Ok(Carried::Plain(ValueKind::Dyn, tree))
+        }
+        Place::Value(pair) => {
+            let of = build::name(alloc, pair.as_str())?;
+            let tree = build::index(alloc, of, Expr::Literal(Literal::Int(1)))?;
+            Ok(Carried::Plain(ValueKind::Dyn, tree))
+        }
+        Place::Unused => Err(unknown(alloc, name)),
+    }
+}
+
+/// A name.
+pub(crate) fn name(alloc: Global, given: &str, names: &Names) -> Result<Carried, TranslationError>
+    ensures { let s = scope_in names.now in ReturnsCarried (specs.name_translation (lookup given.now s.names) given.now (specs.root_translation s given.now)) result }
+{
+    match names {
+        Names::Outside(_, _) | Names::Condition(_) => root(alloc, given, names),
+        Names::Within(first, place, outer) => {
+            if *first == given {
+                return written(alloc, given, place);
+            }
+            name(alloc, given, outer)
+        }
     }
 }
 

@@ -6,7 +6,7 @@ ghost use Rattle.wide_reader.specs.Tree as wide;
 ghost use Rattle.wide_meaning.specs.Environment as environment;
 ghost use Rattle.wide_meaning.specs.Functions.{function_named};
 ghost use Rattle.wide_translation.specs.Carried.{taken};
-ghost use Rattle.wide_translation.specs.Declarations.{ReturnsCarried, carried_view, scope_in};
+ghost use Rattle.wide_translation.specs.Declarations.{ReturnsCarried, carried_view, scope_in, use_view};
 ghost use Rattle.wide_translation.specs.Layers.{sets_test};
 ghost use Rattle.wide_translation.specs.Lists as lists;
 ghost use Rattle.wide_translation.specs.Scope.{is_hidden};
@@ -17,10 +17,14 @@ use crate::calls::{as_list, taken_name, unknown, unknown_method};
 use crate::carried::{Carried, list_of, value_of};
 use crate::indices::index;
 use crate::lists::ListParts;
-use crate::names::{Names, hides_variables, is_taken};
+use crate::names::{Names, hides_variables, is_taken, pair_name};
 use crate::naming::{compared_uint, denotes_variables, is_empty, name, qualified, root, variable};
+use crate::pair_names::{PairNames, both_free};
+use crate::place::Place;
 use crate::translation_error::TranslationError;
-use crate::{calls, entries, fields, list_functions, naming, operators, ranges};
+use crate::{
+    calls, entries, fields, list_functions, naming, operators, pair_macros, pair_ranges, ranges,
+};
 use cel_macros::TextTest;
 use std::alloc::{AllocError, Global};
 use wide_kinds::ValueKind;
@@ -259,6 +263,26 @@ fn selected(
     Ok(fields::field(alloc, access, field, inner)?)
 }
 
+/// The predicate or transform of a macro with two names.
+#[cycle(translation)]
+fn in_pair(
+    alloc: Global,
+    given: &PairNames,
+    part: &Wide,
+    names: &Names,
+) -> Result<Carried, TranslationError>
+    ensures { ReturnsCarried (translated (specs.within_pair (use_view given.now.used) given.now.key.now given.now.value.now (scope_in names.now)) (wide.view part.now)) result }
+{
+    let pair = pair_name(alloc, names)?;
+    let key = String::from_str(alloc, given.key)?;
+    let value = String::from_str(alloc, given.value)?;
+    let first = given.used.key_place(alloc, pair.as_str())?;
+    let second = given.used.value_place(alloc, pair.as_str())?;
+    let outer = Names::Within(key.as_str(), first, &*names);
+    let inner = Names::Within(value.as_str(), second, &outer);
+    translation(alloc, part, &inner)
+}
+
 /// The translation of an expression.
 #[cycle(translation)]
 #[tactic(auto, using(crate::proofs::WideViews::view_call, crate::proofs::WideViews::view_method, crate::proofs::WideViews::view_list, crate::proofs::WideViews::view_map), unfolding(crate::specs::Translated::translated))]
@@ -311,7 +335,7 @@ pub(crate) fn translation(
             let Some((_, of)) = value_of(translation(alloc, range, names)?) else {
                 return Err(TranslationError::OptionalValue);
             };
-            let inner = Names::Within(item.as_str(), ValueKind::Dyn, &*names);
+            let inner = Names::Within(item.as_str(), Place::Itself(ValueKind::Dyn), &*names);
             let body = translation(alloc, part, &inner)?;
             ranges::fold(alloc, *found, item.as_str(), of, body)
         }
@@ -322,15 +346,32 @@ pub(crate) fn translation(
             let Some((_, of)) = value_of(translation(alloc, range, names)?) else {
                 return Err(TranslationError::OptionalValue);
             };
-            let inner = Names::Within(item.as_str(), ValueKind::Dyn, &*names);
+            let inner = Names::Within(item.as_str(), Place::Itself(ValueKind::Dyn), &*names);
             let Some((_, test)) = value_of(translation(alloc, predicate, &inner)?) else {
                 return Err(TranslationError::OptionalValue);
             };
             let body = translation(alloc, transform, &inner)?;
             ranges::filter_map(alloc, item.as_str(), of, test, body)
         }
-        Wide::PairFold(_, _, _, _, _) => Err(TranslationError::Unsupported),
-        Wide::PairFilterMap(_, _, _, _, _) => Err(TranslationError::Unsupported),
+        Wide::PairFold(found, range, key, value, part) => {
+            both_free(alloc, key.as_str(), value.as_str())?;
+            let given = PairNames::in_one(key.as_str(), value.as_str(), part);
+            let operand = translation(alloc, range, names)?;
+            let over = pair_ranges::over(alloc, &given, operand, names)?;
+            let body = in_pair(alloc, &given, part, names)?;
+            pair_macros::fold(alloc, *found, over, body)
+        }
+        Wide::PairFilterMap(range, key, value, predicate, transform) => {
+            both_free(alloc, key.as_str(), value.as_str())?;
+            let given = PairNames::in_two(key.as_str(), value.as_str(), predicate, transform);
+            let operand = translation(alloc, range, names)?;
+            let over = pair_ranges::over(alloc, &given, operand, names)?;
+            let Some((_, test)) = value_of(in_pair(alloc, &given, predicate, names)?) else {
+                return Err(TranslationError::OptionalValue);
+            };
+            let body = in_pair(alloc, &given, transform, names)?;
+            pair_macros::filter_map(alloc, over, test, body)
+        }
         Wide::OptionalFold(found, of, item, part) => {
             if is_taken(item.as_str()) {
                 return Err(taken_name(alloc, item.as_str()));
@@ -339,7 +380,7 @@ pub(crate) fn translation(
             let Some((_, list)) = list_of(as_list(alloc, operand)?) else {
                 return Err(TranslationError::OptionalValue);
             };
-            let inner = Names::Within(item.as_str(), ValueKind::Dyn, &*names);
+            let inner = Names::Within(item.as_str(), Place::Itself(ValueKind::Dyn), &*names);
             let body = translation(alloc, part, &inner)?;
             ranges::optional_fold(alloc, *found, item.as_str(), list, body)
         }

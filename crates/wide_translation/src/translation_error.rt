@@ -21,6 +21,9 @@ pub enum TranslationError {
     /// An unsigned int that is no operand of a comparison, or takes more than 63 bits.
     #[error("this unsigned int is not supported here")]
     UnsignedInt,
+    /// A macro with two names that uses the indices of a list, without a table of them.
+    #[error("the first name of this macro needs tables")]
+    NeedsIndices,
     /// An optional entry whose key is no text literal, or more than three of them in a map.
     #[error("this optional entry is not supported here")]
     OptionalEntry,

@@ -124,8 +124,8 @@ def form_told(found: Found) -> tuple[str, str]:
     assert piece is not None
     if piece.kind == "macro":
         word = OF_ONE_NAME.get(piece.word, piece.word)
-        hint = f"of a map `m.{word}(k, ..)` with `m[k]` for the value, of a list `l.{word}(v, ..)`"
-        return f"`{piece.word}` with two names is not supported yet", hint
+        hint = f"of a map `m.{word}(k, ..)` with `m[k]` for the value"
+        return f"`{piece.name.split()[0]}` may be used only if the range is known to be a map", hint
     if piece.form == "index":
         return "an optional index is a text or an int of at least 0, written out", "`k in e ? e[k] : ..`"
     return MEANINGS["W5"], ""

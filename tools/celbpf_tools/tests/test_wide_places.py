@@ -145,8 +145,7 @@ class Words(unittest.TestCase):
              ("`or` needs an optional value between its brackets", "`or` with an optional value, `orValue` with another")),
             ("o[k]", "W4", "", ("an optional value is indexed by what is no literal", "`k in o.orValue({}) ? o.orValue({})[k] : ..`")),
             ("m.transformList(k, v, k)", "W5", "",
-             ("`transformList` with two names is not supported yet",
-              "of a map `m.map(k, ..)` with `m[k]` for the value, of a list `l.map(v, ..)`")),
+             ("`k` may be used only if the range is known to be a map", "of a map `m.map(k, ..)` with `m[k]` for the value")),
             ("a.b", "W10", "", ("it is nested more than 512 deep", "variables for parts of it")),
             ("a", "M3", "", ("has() is asked of what is no field", "")),
         ]:

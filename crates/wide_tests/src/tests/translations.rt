@@ -22,6 +22,13 @@ object.l.all(x, x != '')¦object.l.all(x, x != '')
 variables.v + params.max¦variables.v + params.max
 variables.o.orValue(0)¦[variables.o].map(celbpf_a, celbpf_a == [] ? 0 : celbpf_a[0])[0]
 object.l.map(x, x.?n.orValue(x))¦object.l.map(x, x != null && has(x.n) ? x.n : x)
+object.l.exists(i, v, v == '')¦(object.l.map(celbpf_i, celbpf_i) == object.l ? object.l : object.l.map(celbpf_i, object.l[celbpf_i])).exists(v, v == '')
+{'a': 1}.all(k, v, k != 'b')¦{'a': 1}.all(k, k != 'b')
+{'a': 1}.existsOne(k, v, k == v)¦[{'a': 1}].map(celbpf_a, celbpf_a.map(celbpf_i, [celbpf_i, celbpf_a[celbpf_i]]))[0].exists_one(celbpf_p, celbpf_p[0] == celbpf_p[1])
+{'a': 1}.transformList(k, v, v > 0, v)¦[{'a': 1}].map(celbpf_a, celbpf_a.map(celbpf_i, celbpf_a[celbpf_i]))[0].map(v, v > 0, v)
+variables.m.exists(k, v, k == v)¦variables.m.map(celbpf_i, [celbpf_i, variables.m[celbpf_i]]).exists(celbpf_p, celbpf_p[0] == celbpf_p[1])
+variables.m.transformList(k, v, k != 'a', v)¦variables.m.map(celbpf_i, [celbpf_i, variables.m[celbpf_i]]).map(celbpf_p, celbpf_p[0] != 'a', celbpf_p[1])
+variables.m.all(k, v, variables.m.exists(l, w, l == k && w == v))¦variables.m.map(celbpf_i, [celbpf_i, variables.m[celbpf_i]]).all(celbpf_p, variables.m.map(celbpf_i, [celbpf_i, variables.m[celbpf_i]]).exists(celbpf_ppp, celbpf_ppp[0] == celbpf_p[0] && celbpf_ppp[1] == celbpf_p[1]))
 {?'a': object.?a, 'b': 1}¦object != null && has(object.a) ? {'a': object.a, 'b': 1} : {'b': 1}
 object.l.first().orValue(object.d)¦[[object.l + []].map(celbpf_a, celbpf_a == [] ? [] : [celbpf_a[0]])[0]].map(celbpf_a, celbpf_a == [] ? object.d : celbpf_a[0])[0]
 object.l.last().value()¦[object.l + []].map(celbpf_a, celbpf_a == [] ? [] : [celbpf_a[size(celbpf_a) - 1]])[0][0]
@@ -50,11 +57,17 @@ variables.none¦none is not supported here
 object.?a + 1¦an optional value cannot be used here
 object.l.all(object, true)¦object cannot be an iteration name here
 1u + 1¦this unsigned int is not supported here
-object.m.all(k, v, true)¦this form is not supported here
+object.m[?object.k]¦this form is not supported here
+object.m.all(k, v, k != v)¦the first name of this macro needs tables
+object.m.all(k, celbpf_x, true)¦celbpf_x cannot be an iteration name here
 {?object.t: object.?a}¦this optional entry is not supported here
 {?'a': object.?a, ?'b': object.?a, ?'c': object.?a, ?'d': object.?a}¦this optional entry is not supported here
 object.l.first(1)¦first is not supported here
 sets.contains(object.l)¦contains is not supported here";
+
+/// The indices of a list, or the keys of a map, each with its item or value.
+const NUMBERED: &str =
+    "(object.m.map(celbpf_i, celbpf_i) == object.m ? params.t.n.filter(celbpf_i, celbpf_i < size(object.m)).map(celbpf_i, [celbpf_i, object.m[celbpf_i]]) : object.m.map(celbpf_i, [celbpf_i, object.m[celbpf_i]])).all(celbpf_p, celbpf_p[1] != celbpf_p[0])";
 
 /// The variables `v`, of any kind, `o`, an optional value, `m`, a map, and `l`, a list.
 fn scope(alloc: Global) -> Result<Scope, AllocError> {
@@ -105,6 +118,7 @@ fn translates_conditions(rt: HostRuntime) -> Result<(), Fail> {
 #[test]
 fn translates_params_beside_tables(rt: HostRuntime) -> Result<(), Fail> {
     assert!(rt; has_translation(rt.alloc(), "params.max", true, "params.v.max")?);
+    assert!(rt; has_translation(rt.alloc(), "object.m.all(k, v, v != k)", true, NUMBERED)?);
     Ok(())
 }
 

@@ -1,5 +1,5 @@
 -- Proof obligations of the functions of the cycle `translation` (src/translating.rt).
-use Rattle.std.proofs.Common.{◌≡◌, ◌∙◌, ap, sym, map, arith, rules}
+use Rattle.std.proofs.Common.{◌≡◌, ◌∙◌, ap, sym, map, string_bytes, arith, rules}
 use Rattle.cel_reader.specs.Tree as node
 use Rattle.cel_reader.specs.Tree.{Tree}
 use Rattle.wide_kinds.specs.declared.kind.ValueKind.TheVariants as kind
@@ -7,12 +7,17 @@ use Rattle.wide_translation.specs.declared.carried.Carried.{Carried as CodeCarri
 use Rattle.wide_translation.specs.Carried.{plain, taken}
 use Rattle.wide_meaning.specs.Functions.{function_named}
 use Rattle.wide_translation.specs.declared.translation_error.TranslationError.TheVariants as error
-use Rattle.wide_translation.specs.Declarations.{scope_in, carried_view}
+use Rattle.wide_translation.specs.Declarations.{scope_in, carried_view, use_view}
+use Rattle.wide_translation.specs.Pairs.{within_pair}
 use Rattle.wide_translation.specs.Segments.{after_parts}
 use Rattle.wide_translation.specs.Translated.{call_translation, qualified_translation, method_carried}
 use Rattle.wide_translation.proofs.Arms.{none_returns, one_returns, first_refused, first_taken, two_refused, call_taken, call_refused, passed_on}
 use Rattle.wide_translation.proofs.EntrySteps.{entries_refusal, entries_next, entries_whole, key_refused, key_is_optional, entry_value_refused, entry_faulty}
 use Rattle.wide_translation.proofs.ItemSteps.{item_next, items_refusal, items_misplacement, items_whole}
+use Rattle.wide_translation.proofs.PairReturns.{used_bytes, used_by_two, taken_of, refused_of}
+use Rattle.wide_translation.proofs.PairReturns.{fold_names_refused, fold_operand_refused, fold_no_range, fold_body_refused, fold_body_taken}
+use Rattle.wide_translation.proofs.PairReturns.{map_names_refused, map_operand_refused, map_no_range, map_predicate_refused, map_predicate_no_value}
+use Rattle.wide_translation.proofs.PairReturns.{map_transform_refused, map_transform_taken}
 use Rattle.wide_reader.specs.declared.wide.Wide.{size-Wide}
 use Rattle.wide_translation.proofs.Depths.{arguments_fall}
 use denote.Param.Weighed.{most}
@@ -131,3 +136,72 @@ translation-method-requires t c = (
   ),
   tt,
 )
+
+pub translation-returns-in_err-both_free-in-PairFold : goal.translation-returns-in_err-both_free-in-PairFold
+translation-returns-in_err-both_free-in-PairFold t c =
+    passed_on _ c.in_err-both_free-in-PairFold.field-0.0 c.from_residual-in_err-both_free-in-PairFold.result
+    (fold_names_refused (scope_in c.args.names.now) c.args.e.now c.in-PairFold.found c.in-PairFold.range c.in-PairFold.key c.in-PairFold.value c.in-PairFold.part c.in-PairFold.is c.as_str-in-PairFold.result.now c.as_str-in-PairFold-2.result.now c.in_err-both_free-in-PairFold.field-0.0 c.as_str-in-PairFold.ensures.value c.as_str-in-PairFold-2.ensures.value c.in_err-both_free-in-PairFold.ensures.taken)
+    c.from_residual-in_err-both_free-in-PairFold.ensures.0 c.from_residual-in_err-both_free-in-PairFold.ensures.1
+
+pub translation-returns-in_err-operand-in-PairFold : goal.translation-returns-in_err-operand-in-PairFold
+translation-returns-in_err-operand-in-PairFold t c =
+    passed_on _ c.in_err-operand-in-PairFold.field-0.0 c.from_residual-in_err-operand-in-PairFold.result
+    (fold_operand_refused (scope_in c.args.names.now) c.args.e.now c.in-PairFold.found c.in-PairFold.range c.in-PairFold.key c.in-PairFold.value c.in-PairFold.part c.in-PairFold.is (use_view c.in_one-given.result.used) (used_bytes (use_view c.in_one-given.result.used) c.as_str-in-PairFold-3.result.now c.as_str-in-PairFold-4.result.now (string_bytes c.in-PairFold.key) (string_bytes c.in-PairFold.value) c.deref-in-PairFold.result.now c.in-PairFold.part.value c.deref-in-PairFold.ensures c.as_str-in-PairFold-3.ensures.value c.as_str-in-PairFold-4.ensures.value c.in_one-given.ensures.used) c.as_str-in-PairFold.result.now c.as_str-in-PairFold-2.result.now c.as_str-in-PairFold.ensures.value c.as_str-in-PairFold-2.ensures.value c.in_ok-both_free-in-PairFold.ensures.free c.in_err-operand-in-PairFold.field-0.0 (refused_of (scope_in c.args.names.now) c.deref-in-PairFold-2.result.now c.in-PairFold.range.value c.in_err-operand-in-PairFold.field-0.0 c.deref-in-PairFold-2.ensures c.in_err-operand-in-PairFold.ensures))
+    c.from_residual-in_err-operand-in-PairFold.ensures.0 c.from_residual-in_err-operand-in-PairFold.ensures.1
+
+pub translation-returns-in_err-over-in-PairFold : goal.translation-returns-in_err-over-in-PairFold
+translation-returns-in_err-over-in-PairFold t c =
+    passed_on _ c.in_err-over-in-PairFold.field-0.0 c.from_residual-in_err-over-in-PairFold.result
+    (fold_no_range (scope_in c.args.names.now) c.args.e.now c.in-PairFold.found c.in-PairFold.range c.in-PairFold.key c.in-PairFold.value c.in-PairFold.part c.in-PairFold.is (use_view c.in_one-given.result.used) (used_bytes (use_view c.in_one-given.result.used) c.as_str-in-PairFold-3.result.now c.as_str-in-PairFold-4.result.now (string_bytes c.in-PairFold.key) (string_bytes c.in-PairFold.value) c.deref-in-PairFold.result.now c.in-PairFold.part.value c.deref-in-PairFold.ensures c.as_str-in-PairFold-3.ensures.value c.as_str-in-PairFold-4.ensures.value c.in_one-given.ensures.used) c.as_str-in-PairFold.result.now c.as_str-in-PairFold-2.result.now c.as_str-in-PairFold.ensures.value c.as_str-in-PairFold-2.ensures.value c.in_ok-both_free-in-PairFold.ensures.free (carried_view c.in_ok-operand-in-PairFold.operand) c.in_err-over-in-PairFold.field-0.0 (taken_of (scope_in c.args.names.now) c.deref-in-PairFold-2.result.now c.in-PairFold.range.value _ c.deref-in-PairFold-2.ensures c.in_ok-operand-in-PairFold.ensures) c.in_err-over-in-PairFold.ensures)
+    c.from_residual-in_err-over-in-PairFold.ensures.0 c.from_residual-in_err-over-in-PairFold.ensures.1
+
+pub translation-returns-in_err-body-in-PairFold : goal.translation-returns-in_err-body-in-PairFold
+translation-returns-in_err-body-in-PairFold t c =
+    passed_on _ c.in_err-body-in-PairFold.field-0.0 c.from_residual-in_err-body-in-PairFold.result
+    (fold_body_refused (scope_in c.args.names.now) c.args.e.now c.in-PairFold.found c.in-PairFold.range c.in-PairFold.key c.in-PairFold.value c.in-PairFold.part c.in-PairFold.is (use_view c.in_one-given.result.used) (used_bytes (use_view c.in_one-given.result.used) c.as_str-in-PairFold-3.result.now c.as_str-in-PairFold-4.result.now (string_bytes c.in-PairFold.key) (string_bytes c.in-PairFold.value) c.deref-in-PairFold.result.now c.in-PairFold.part.value c.deref-in-PairFold.ensures c.as_str-in-PairFold-3.ensures.value c.as_str-in-PairFold-4.ensures.value c.in_one-given.ensures.used) c.as_str-in-PairFold.result.now c.as_str-in-PairFold-2.result.now c.as_str-in-PairFold.ensures.value c.as_str-in-PairFold-2.ensures.value c.in_ok-both_free-in-PairFold.ensures.free (carried_view c.in_ok-operand-in-PairFold.operand) (node.view c.in_ok-over-in-PairFold.over.range) (taken_of (scope_in c.args.names.now) c.deref-in-PairFold-2.result.now c.in-PairFold.range.value _ c.deref-in-PairFold-2.ensures c.in_ok-operand-in-PairFold.ensures) c.in_ok-over-in-PairFold.ensures.1 c.in_one-given.result.key.now c.in_one-given.result.value.now (c.in_one-given.ensures.key ∙ c.as_str-in-PairFold-3.ensures.value) (c.in_one-given.ensures.value ∙ c.as_str-in-PairFold-4.ensures.value) c.in_err-body-in-PairFold.field-0.0 (refused_of (within_pair (use_view c.in_one-given.result.used) c.in_one-given.result.key.now c.in_one-given.result.value.now (scope_in c.args.names.now)) c.deref-in-PairFold-3.result.now c.in-PairFold.part.value c.in_err-body-in-PairFold.field-0.0 c.deref-in-PairFold-3.ensures c.in_err-body-in-PairFold.ensures))
+    c.from_residual-in_err-body-in-PairFold.ensures.0 c.from_residual-in_err-body-in-PairFold.ensures.1
+
+pub translation-returns-in_ok-body-in-PairFold : goal.translation-returns-in_ok-body-in-PairFold
+translation-returns-in_ok-body-in-PairFold t c =
+    fold_body_taken (scope_in c.args.names.now) c.args.e.now c.in-PairFold.found c.in-PairFold.range c.in-PairFold.key c.in-PairFold.value c.in-PairFold.part c.in-PairFold.is (use_view c.in_one-given.result.used) (used_bytes (use_view c.in_one-given.result.used) c.as_str-in-PairFold-3.result.now c.as_str-in-PairFold-4.result.now (string_bytes c.in-PairFold.key) (string_bytes c.in-PairFold.value) c.deref-in-PairFold.result.now c.in-PairFold.part.value c.deref-in-PairFold.ensures c.as_str-in-PairFold-3.ensures.value c.as_str-in-PairFold-4.ensures.value c.in_one-given.ensures.used) c.as_str-in-PairFold.result.now c.as_str-in-PairFold-2.result.now c.as_str-in-PairFold.ensures.value c.as_str-in-PairFold-2.ensures.value c.in_ok-both_free-in-PairFold.ensures.free (carried_view c.in_ok-operand-in-PairFold.operand) (node.view c.in_ok-over-in-PairFold.over.range) (taken_of (scope_in c.args.names.now) c.deref-in-PairFold-2.result.now c.in-PairFold.range.value _ c.deref-in-PairFold-2.ensures c.in_ok-operand-in-PairFold.ensures) c.in_ok-over-in-PairFold.ensures.1 c.in_one-given.result.key.now c.in_one-given.result.value.now (c.in_one-given.ensures.key ∙ c.as_str-in-PairFold-3.ensures.value) (c.in_one-given.ensures.value ∙ c.as_str-in-PairFold-4.ensures.value)
+    (carried_view c.in_ok-body-in-PairFold.body) (string_bytes c.in_ok-over-in-PairFold.over.binder) _ c.in_ok-over-in-PairFold.ensures.0 (taken_of (within_pair (use_view c.in_one-given.result.used) c.in_one-given.result.key.now c.in_one-given.result.value.now (scope_in c.args.names.now)) c.deref-in-PairFold-3.result.now c.in-PairFold.part.value _ c.deref-in-PairFold-3.ensures c.in_ok-body-in-PairFold.ensures) c.fold-in-PairFold.ensures
+
+pub translation-returns-in_err-both_free-in-PairFilterMap : goal.translation-returns-in_err-both_free-in-PairFilterMap
+translation-returns-in_err-both_free-in-PairFilterMap t c =
+    passed_on _ c.in_err-both_free-in-PairFilterMap.field-0.0 c.from_residual-in_err-both_free-in-PairFilterMap.result
+    (map_names_refused (scope_in c.args.names.now) c.args.e.now c.in-PairFilterMap.range c.in-PairFilterMap.key c.in-PairFilterMap.value c.in-PairFilterMap.predicate c.in-PairFilterMap.transform c.in-PairFilterMap.is c.as_str-in-PairFilterMap.result.now c.as_str-in-PairFilterMap-2.result.now c.in_err-both_free-in-PairFilterMap.field-0.0 c.as_str-in-PairFilterMap.ensures.value c.as_str-in-PairFilterMap-2.ensures.value c.in_err-both_free-in-PairFilterMap.ensures.taken)
+    c.from_residual-in_err-both_free-in-PairFilterMap.ensures.0 c.from_residual-in_err-both_free-in-PairFilterMap.ensures.1
+
+pub translation-returns-in_err-operand-in-PairFilterMap : goal.translation-returns-in_err-operand-in-PairFilterMap
+translation-returns-in_err-operand-in-PairFilterMap t c =
+    passed_on _ c.in_err-operand-in-PairFilterMap.field-0.0 c.from_residual-in_err-operand-in-PairFilterMap.result
+    (map_operand_refused (scope_in c.args.names.now) c.args.e.now c.in-PairFilterMap.range c.in-PairFilterMap.key c.in-PairFilterMap.value c.in-PairFilterMap.predicate c.in-PairFilterMap.transform c.in-PairFilterMap.is (use_view c.in_two-given.result.used) (used_by_two (use_view c.in_two-given.result.used) c.as_str-in-PairFilterMap-3.result.now c.as_str-in-PairFilterMap-4.result.now (string_bytes c.in-PairFilterMap.key) (string_bytes c.in-PairFilterMap.value) c.deref-in-PairFilterMap.result.now c.in-PairFilterMap.predicate.value c.deref-in-PairFilterMap-2.result.now c.in-PairFilterMap.transform.value c.deref-in-PairFilterMap.ensures c.deref-in-PairFilterMap-2.ensures c.as_str-in-PairFilterMap-3.ensures.value c.as_str-in-PairFilterMap-4.ensures.value c.in_two-given.ensures.used) c.as_str-in-PairFilterMap.result.now c.as_str-in-PairFilterMap-2.result.now c.as_str-in-PairFilterMap.ensures.value c.as_str-in-PairFilterMap-2.ensures.value c.in_ok-both_free-in-PairFilterMap.ensures.free c.in_err-operand-in-PairFilterMap.field-0.0 (refused_of (scope_in c.args.names.now) c.deref-in-PairFilterMap-3.result.now c.in-PairFilterMap.range.value c.in_err-operand-in-PairFilterMap.field-0.0 c.deref-in-PairFilterMap-3.ensures c.in_err-operand-in-PairFilterMap.ensures))
+    c.from_residual-in_err-operand-in-PairFilterMap.ensures.0 c.from_residual-in_err-operand-in-PairFilterMap.ensures.1
+
+pub translation-returns-in_err-over-in-PairFilterMap : goal.translation-returns-in_err-over-in-PairFilterMap
+translation-returns-in_err-over-in-PairFilterMap t c =
+    passed_on _ c.in_err-over-in-PairFilterMap.field-0.0 c.from_residual-in_err-over-in-PairFilterMap.result
+    (map_no_range (scope_in c.args.names.now) c.args.e.now c.in-PairFilterMap.range c.in-PairFilterMap.key c.in-PairFilterMap.value c.in-PairFilterMap.predicate c.in-PairFilterMap.transform c.in-PairFilterMap.is (use_view c.in_two-given.result.used) (used_by_two (use_view c.in_two-given.result.used) c.as_str-in-PairFilterMap-3.result.now c.as_str-in-PairFilterMap-4.result.now (string_bytes c.in-PairFilterMap.key) (string_bytes c.in-PairFilterMap.value) c.deref-in-PairFilterMap.result.now c.in-PairFilterMap.predicate.value c.deref-in-PairFilterMap-2.result.now c.in-PairFilterMap.transform.value c.deref-in-PairFilterMap.ensures c.deref-in-PairFilterMap-2.ensures c.as_str-in-PairFilterMap-3.ensures.value c.as_str-in-PairFilterMap-4.ensures.value c.in_two-given.ensures.used) c.as_str-in-PairFilterMap.result.now c.as_str-in-PairFilterMap-2.result.now c.as_str-in-PairFilterMap.ensures.value c.as_str-in-PairFilterMap-2.ensures.value c.in_ok-both_free-in-PairFilterMap.ensures.free (carried_view c.in_ok-operand-in-PairFilterMap.operand) c.in_err-over-in-PairFilterMap.field-0.0 (taken_of (scope_in c.args.names.now) c.deref-in-PairFilterMap-3.result.now c.in-PairFilterMap.range.value _ c.deref-in-PairFilterMap-3.ensures c.in_ok-operand-in-PairFilterMap.ensures) c.in_err-over-in-PairFilterMap.ensures)
+    c.from_residual-in_err-over-in-PairFilterMap.ensures.0 c.from_residual-in_err-over-in-PairFilterMap.ensures.1
+
+pub translation-returns-in_err-in_pair-in-PairFilterMap : goal.translation-returns-in_err-in_pair-in-PairFilterMap
+translation-returns-in_err-in_pair-in-PairFilterMap t c =
+    passed_on _ c.in_err-in_pair-in-PairFilterMap.field-0.0 c.from_residual-in_err-in_pair-in-PairFilterMap.result
+    (map_predicate_refused (scope_in c.args.names.now) c.args.e.now c.in-PairFilterMap.range c.in-PairFilterMap.key c.in-PairFilterMap.value c.in-PairFilterMap.predicate c.in-PairFilterMap.transform c.in-PairFilterMap.is (use_view c.in_two-given.result.used) (used_by_two (use_view c.in_two-given.result.used) c.as_str-in-PairFilterMap-3.result.now c.as_str-in-PairFilterMap-4.result.now (string_bytes c.in-PairFilterMap.key) (string_bytes c.in-PairFilterMap.value) c.deref-in-PairFilterMap.result.now c.in-PairFilterMap.predicate.value c.deref-in-PairFilterMap-2.result.now c.in-PairFilterMap.transform.value c.deref-in-PairFilterMap.ensures c.deref-in-PairFilterMap-2.ensures c.as_str-in-PairFilterMap-3.ensures.value c.as_str-in-PairFilterMap-4.ensures.value c.in_two-given.ensures.used) c.as_str-in-PairFilterMap.result.now c.as_str-in-PairFilterMap-2.result.now c.as_str-in-PairFilterMap.ensures.value c.as_str-in-PairFilterMap-2.ensures.value c.in_ok-both_free-in-PairFilterMap.ensures.free (carried_view c.in_ok-operand-in-PairFilterMap.operand) (node.view c.in_ok-over-in-PairFilterMap.over.range) (taken_of (scope_in c.args.names.now) c.deref-in-PairFilterMap-3.result.now c.in-PairFilterMap.range.value _ c.deref-in-PairFilterMap-3.ensures c.in_ok-operand-in-PairFilterMap.ensures) c.in_ok-over-in-PairFilterMap.ensures.1 c.in_two-given.result.key.now c.in_two-given.result.value.now (c.in_two-given.ensures.key ∙ c.as_str-in-PairFilterMap-3.ensures.value) (c.in_two-given.ensures.value ∙ c.as_str-in-PairFilterMap-4.ensures.value) c.in_err-in_pair-in-PairFilterMap.field-0.0 (refused_of (within_pair (use_view c.in_two-given.result.used) c.in_two-given.result.key.now c.in_two-given.result.value.now (scope_in c.args.names.now)) c.deref-in-PairFilterMap-4.result.now c.in-PairFilterMap.predicate.value c.in_err-in_pair-in-PairFilterMap.field-0.0 c.deref-in-PairFilterMap-4.ensures c.in_err-in_pair-in-PairFilterMap.ensures))
+    c.from_residual-in_err-in_pair-in-PairFilterMap.ensures.0 c.from_residual-in_err-in_pair-in-PairFilterMap.ensures.1
+
+pub translation-returns-in_default-value_of-4 : goal.translation-returns-in_default-value_of-4
+translation-returns-in_default-value_of-4 t c =
+    λ m. map_predicate_no_value (scope_in c.args.names.now) c.args.e.now c.in-PairFilterMap.range c.in-PairFilterMap.key c.in-PairFilterMap.value c.in-PairFilterMap.predicate c.in-PairFilterMap.transform c.in-PairFilterMap.is (use_view c.in_two-given.result.used) (used_by_two (use_view c.in_two-given.result.used) c.as_str-in-PairFilterMap-3.result.now c.as_str-in-PairFilterMap-4.result.now (string_bytes c.in-PairFilterMap.key) (string_bytes c.in-PairFilterMap.value) c.deref-in-PairFilterMap.result.now c.in-PairFilterMap.predicate.value c.deref-in-PairFilterMap-2.result.now c.in-PairFilterMap.transform.value c.deref-in-PairFilterMap.ensures c.deref-in-PairFilterMap-2.ensures c.as_str-in-PairFilterMap-3.ensures.value c.as_str-in-PairFilterMap-4.ensures.value c.in_two-given.ensures.used) c.as_str-in-PairFilterMap.result.now c.as_str-in-PairFilterMap-2.result.now c.as_str-in-PairFilterMap.ensures.value c.as_str-in-PairFilterMap-2.ensures.value c.in_ok-both_free-in-PairFilterMap.ensures.free (carried_view c.in_ok-operand-in-PairFilterMap.operand) (node.view c.in_ok-over-in-PairFilterMap.over.range) (taken_of (scope_in c.args.names.now) c.deref-in-PairFilterMap-3.result.now c.in-PairFilterMap.range.value _ c.deref-in-PairFilterMap-3.ensures c.in_ok-operand-in-PairFilterMap.ensures) c.in_ok-over-in-PairFilterMap.ensures.1 c.in_two-given.result.key.now c.in_two-given.result.value.now (c.in_two-given.ensures.key ∙ c.as_str-in-PairFilterMap-3.ensures.value) (c.in_two-given.ensures.value ∙ c.as_str-in-PairFilterMap-4.ensures.value)
+    (carried_view c.in_ok-in_pair-in-PairFilterMap.field-0) (taken_of (within_pair (use_view c.in_two-given.result.used) c.in_two-given.result.key.now c.in_two-given.result.value.now (scope_in c.args.names.now)) c.deref-in-PairFilterMap-4.result.now c.in-PairFilterMap.predicate.value _ c.deref-in-PairFilterMap-4.ensures c.in_ok-in_pair-in-PairFilterMap.ensures) c.in_default-value_of-4.ensures
+
+pub translation-returns-in_err-body-in-PairFilterMap : goal.translation-returns-in_err-body-in-PairFilterMap
+translation-returns-in_err-body-in-PairFilterMap t c =
+    passed_on _ c.in_err-body-in-PairFilterMap.field-0.0 c.from_residual-in_err-body-in-PairFilterMap.result
+    (map_transform_refused (scope_in c.args.names.now) c.args.e.now c.in-PairFilterMap.range c.in-PairFilterMap.key c.in-PairFilterMap.value c.in-PairFilterMap.predicate c.in-PairFilterMap.transform c.in-PairFilterMap.is (use_view c.in_two-given.result.used) (used_by_two (use_view c.in_two-given.result.used) c.as_str-in-PairFilterMap-3.result.now c.as_str-in-PairFilterMap-4.result.now (string_bytes c.in-PairFilterMap.key) (string_bytes c.in-PairFilterMap.value) c.deref-in-PairFilterMap.result.now c.in-PairFilterMap.predicate.value c.deref-in-PairFilterMap-2.result.now c.in-PairFilterMap.transform.value c.deref-in-PairFilterMap.ensures c.deref-in-PairFilterMap-2.ensures c.as_str-in-PairFilterMap-3.ensures.value c.as_str-in-PairFilterMap-4.ensures.value c.in_two-given.ensures.used) c.as_str-in-PairFilterMap.result.now c.as_str-in-PairFilterMap-2.result.now c.as_str-in-PairFilterMap.ensures.value c.as_str-in-PairFilterMap-2.ensures.value c.in_ok-both_free-in-PairFilterMap.ensures.free (carried_view c.in_ok-operand-in-PairFilterMap.operand) (node.view c.in_ok-over-in-PairFilterMap.over.range) (taken_of (scope_in c.args.names.now) c.deref-in-PairFilterMap-3.result.now c.in-PairFilterMap.range.value _ c.deref-in-PairFilterMap-3.ensures c.in_ok-operand-in-PairFilterMap.ensures) c.in_ok-over-in-PairFilterMap.ensures.1 c.in_two-given.result.key.now c.in_two-given.result.value.now (c.in_two-given.ensures.key ∙ c.as_str-in-PairFilterMap-3.ensures.value) (c.in_two-given.ensures.value ∙ c.as_str-in-PairFilterMap-4.ensures.value) (carried_view c.in_ok-in_pair-in-PairFilterMap.field-0) c.in-Some-value_of-4.field-0-0 (node.view c.in-Some-value_of-4.test) (taken_of (within_pair (use_view c.in_two-given.result.used) c.in_two-given.result.key.now c.in_two-given.result.value.now (scope_in c.args.names.now)) c.deref-in-PairFilterMap-4.result.now c.in-PairFilterMap.predicate.value _ c.deref-in-PairFilterMap-4.ensures c.in_ok-in_pair-in-PairFilterMap.ensures) c.in-Some-value_of-4.ensures c.in_err-body-in-PairFilterMap.field-0.0 (refused_of (within_pair (use_view c.in_two-given.result.used) c.in_two-given.result.key.now c.in_two-given.result.value.now (scope_in c.args.names.now)) c.deref-in-PairFilterMap-5.result.now c.in-PairFilterMap.transform.value c.in_err-body-in-PairFilterMap.field-0.0 c.deref-in-PairFilterMap-5.ensures c.in_err-body-in-PairFilterMap.ensures))
+    c.from_residual-in_err-body-in-PairFilterMap.ensures.0 c.from_residual-in_err-body-in-PairFilterMap.ensures.1
+
+pub translation-returns-in_ok-body-in-PairFilterMap : goal.translation-returns-in_ok-body-in-PairFilterMap
+translation-returns-in_ok-body-in-PairFilterMap t c =
+    map_transform_taken (scope_in c.args.names.now) c.args.e.now c.in-PairFilterMap.range c.in-PairFilterMap.key c.in-PairFilterMap.value c.in-PairFilterMap.predicate c.in-PairFilterMap.transform c.in-PairFilterMap.is (use_view c.in_two-given.result.used) (used_by_two (use_view c.in_two-given.result.used) c.as_str-in-PairFilterMap-3.result.now c.as_str-in-PairFilterMap-4.result.now (string_bytes c.in-PairFilterMap.key) (string_bytes c.in-PairFilterMap.value) c.deref-in-PairFilterMap.result.now c.in-PairFilterMap.predicate.value c.deref-in-PairFilterMap-2.result.now c.in-PairFilterMap.transform.value c.deref-in-PairFilterMap.ensures c.deref-in-PairFilterMap-2.ensures c.as_str-in-PairFilterMap-3.ensures.value c.as_str-in-PairFilterMap-4.ensures.value c.in_two-given.ensures.used) c.as_str-in-PairFilterMap.result.now c.as_str-in-PairFilterMap-2.result.now c.as_str-in-PairFilterMap.ensures.value c.as_str-in-PairFilterMap-2.ensures.value c.in_ok-both_free-in-PairFilterMap.ensures.free (carried_view c.in_ok-operand-in-PairFilterMap.operand) (node.view c.in_ok-over-in-PairFilterMap.over.range) (taken_of (scope_in c.args.names.now) c.deref-in-PairFilterMap-3.result.now c.in-PairFilterMap.range.value _ c.deref-in-PairFilterMap-3.ensures c.in_ok-operand-in-PairFilterMap.ensures) c.in_ok-over-in-PairFilterMap.ensures.1 c.in_two-given.result.key.now c.in_two-given.result.value.now (c.in_two-given.ensures.key ∙ c.as_str-in-PairFilterMap-3.ensures.value) (c.in_two-given.ensures.value ∙ c.as_str-in-PairFilterMap-4.ensures.value) (carried_view c.in_ok-in_pair-in-PairFilterMap.field-0) c.in-Some-value_of-4.field-0-0 (node.view c.in-Some-value_of-4.test) (taken_of (within_pair (use_view c.in_two-given.result.used) c.in_two-given.result.key.now c.in_two-given.result.value.now (scope_in c.args.names.now)) c.deref-in-PairFilterMap-4.result.now c.in-PairFilterMap.predicate.value _ c.deref-in-PairFilterMap-4.ensures c.in_ok-in_pair-in-PairFilterMap.ensures) c.in-Some-value_of-4.ensures
+    (carried_view c.in_ok-body-in-PairFilterMap.body) (string_bytes c.in_ok-over-in-PairFilterMap.over.binder) _ c.in_ok-over-in-PairFilterMap.ensures.0 (taken_of (within_pair (use_view c.in_two-given.result.used) c.in_two-given.result.key.now c.in_two-given.result.value.now (scope_in c.args.names.now)) c.deref-in-PairFilterMap-5.result.now c.in-PairFilterMap.transform.value _ c.deref-in-PairFilterMap-5.ensures c.in_ok-body-in-PairFilterMap.ensures) c.filter_map-in-PairFilterMap.ensures
