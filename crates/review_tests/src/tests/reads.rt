@@ -170,14 +170,12 @@ fn ends_at_the_first_of_two_limits(rt: HostRuntime) -> Result<(), Fail> {
 /// Items of a list, a limit of reads, and the end.
 ///
 /// The key `l` reads 2. The turn for an item reads 1,200,006: the key `t`, twice for two entries, the literal of
-/// 2 bytes, and a search of 2 bytes in 1,200,000. So 2^24 bytes have room for 13 turns, and 2^28 for 223.
+/// 2 bytes, and a search of 2 bytes in 1,200,000. So 2^24 bytes have room for 13 turns.
 #[rattlefmt::skip]
-const TURNS: [(usize, u64, End); 5] = [
+const TURNS: [(usize, u64, End); 3] = [
     (13, 16_777_216, ALLOWED),
     (14, 16_777_216, OUT_OF_READS),
-    (223, 268_435_456, ALLOWED),
-    (224, 268_435_456, OUT_OF_READS),
-    (100_000, 268_435_456, OUT_OF_READS),
+    (100_000, 16_777_216, OUT_OF_READS),
 ];
 
 /// The object with a list of this many items and a text of 1,200,000 letters.
