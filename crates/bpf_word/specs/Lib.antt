@@ -1,5 +1,6 @@
 -- Definitions of bpf_word: the list of their modules.
 pub mod Arithmetic
+pub mod Atomics
 pub mod Bytes
 pub mod Comparisons
 pub mod Halves
