@@ -1,7 +1,8 @@
 -- The results of reviews, from the states of the policies' programs.
 use Rattle.std.proofs.Common.{nat_lt}
-use Rattle.admission.proofs.Prelude.{◌≡◌, ℕ, ◌+◌, ◌*◌, ◌≤◌, ◌⊎◌, Bool, true, false, ◌&&◌, List, [], ◌∷◌, ◌++◌, length, Option, Some, Result, Ok, Err, refl, sym, ap, ◌∙◌, subst, arith, inl, inr, if◌then◌else◌, cases_lt, length-map, length_push, Fault as GuestFault, F8, StartIsCanonical, Contents, Roots, StartsAreTables, State, start_state, StatesAreKept, is_running, state_after, Status, Exited, Running, HasValues, TakenOrRefused, PartsEnd, policy_work, decision_of, outcome_of, outcome_word, Compiles, Verdict, Policy, Decides, OutOfBudget, LeavesByExit, PolicyTree, Finding, decided, judged_by, verdict_of, CompileError, FailurePolicy, GatePolicy, Reply, Documents, IsAnswered, IsPolicy, decision, started, values_given, IsGateOn, Exit, Exits, HasExited, IsExit, OfVerdict, IsDecisionOf, Decision, decision_from_verdict, Images, PolicyRun, PolicyRunEnds, RunAgrees, exactly, document_given, parts_given, uid_in, RunError, ReviewRefused, NamespaceOrParamsRefused, OutOfSteps, OverLimit, OutOfReads}
+use Rattle.admission.proofs.Prelude.{◌≡◌, ℕ, ◌+◌, ◌*◌, ◌≤◌, ◌⊎◌, Bool, true, false, ◌&&◌, List, [], ◌∷◌, ◌++◌, length, Option, Some, Result, Ok, Err, refl, sym, ap, ◌∙◌, subst, arith, inl, inr, if◌then◌else◌, cases_lt, length-map, length_push, Fault as GuestFault, F8, StartIsCanonical, Contents, Roots, StartsAreTables, State, start_state, StatesAreKept, is_running, state_after, Status, Exited, Running, HasValues, TakenOrRefused, PartsEnd, policy_work, decision_of, outcome_of, outcome_word, Compiles, Verdict, Policy, Decides, OutOfBudget, LeavesByExit, PolicyTree, Finding, decided, judged_by, verdict_of, CompileError, FailurePolicy, GatePolicy, Reply, Documents, IsAnswered, IsPolicy, decision, started, values_given, IsGateOn, Exit, Exits, HasExited, NoExit, Stopped, no_exit_error, IsExit, OfVerdict, IsDecisionOf, Decision, decision_from_verdict, Images, PolicyRun, PolicyRunEnds, RunAgrees, exactly, document_given, parts_given, uid_in, RunError, ReviewRefused, NamespaceOrParamsRefused, OutOfSteps, OverLimit, OutOfReads}
 use Rattle.bpf_machine.specs.declared.status.Status.TheVariants.{Fault}
+use Rattle.run_ends.specs.declared.no_exit.NoExit.TheVariants as no_exit
 use Rattle.bpf_machine.specs.Reads.{reads_to, IsLimitedStop, LimitedStopsOnce}
 use Rattle.policy_glue.specs.Checking as checking
 use Rattle.policy_glue.specs.Findings.{PolicyFinding, findings_of}
@@ -179,14 +180,13 @@ module _ (gate : GatePolicy) (d : Documents) (of : IsGateOn d.language d.policy 
         let is : s.status ≡ Exited exited.0 = ap (λ (t : State). t.status) (sym end.state) ∙ sym end.status_is ∙ exited.1 in
         subst (λ (t : State). ExitsSo (Ok (record { state = t; uid = uid_in d.review }))) (sym end.state) (exit_by exited.0 is (stopped (ap is_running is)))
 
-    not_ended : (e : RunError) (status : Status) (held : Bool) → status ≡ s.status → held ≡ (nat_lt m limits.steps && is_running status) → HasExited status held (Err e)
-        → ExitsSo (Err e)
-    not_ended OutOfSteps status left same is (running, none) = unended (sym same ∙ running) (not_and _ status (sym is ∙ none) running)
-    not_ended OutOfReads status left same is (running, some) = held_back (sym same ∙ running) (of_and _ _ (sym is ∙ some))
-    not_ended OverLimit status left same is (fault, faulted) =
+    not_ended : (e : NoExit) (status : Status) (held : Bool) → status ≡ s.status → held ≡ (nat_lt m limits.steps && is_running status) → HasExited status held (Err e)
+        → ExitsSo (Err (no_exit_error e))
+    not_ended no_exit.OutOfSteps status left same is (running, none) = unended (sym same ∙ running) (not_and _ status (sym is ∙ none) running)
+    not_ended no_exit.OutOfReads status left same is (running, some) = held_back (sym same ∙ running) (of_and _ _ (sym is ∙ some))
+    not_ended Stopped status left same is (fault, faulted) =
         let by : s.status ≡ Fault fault = sym same ∙ faulted in
         stopped_by fault by (stopped (ap is_running by))
-    not_ended e status left same is none = absurd none
 
   module _ (laws : Laws) (values : Contents) (given : values_given d ≡ Ok values) where
     -- a fact that holds for each start on roots holds for this one
@@ -197,9 +197,9 @@ module _ (gate : GatePolicy) (d : Documents) (of : IsGateOn d.language d.policy 
 
     module _ (machine : State) (status : Status) (held : Bool) where
       -- the program has not exited
-      pub not_exited : IsEndOf limits (start_state gate.image values) machine status held → (e : RunError) → HasExited status held (Err e) → ExitsSo (Err e)
+      pub not_exited : IsEndOf limits (start_state gate.image values) machine status held → (e : NoExit) → HasExited status held (Err e) → ExitsSo (Err (no_exit_error e))
       not_exited end e why =
-          of_values (λ v. IsEndOf limits (start_state gate.image v) machine status held → ExitsSo (Err e))
+          of_values (λ v. IsEndOf limits (start_state gate.image v) machine status held → ExitsSo (Err (no_exit_error e)))
           (λ roots begins has is. not_ended laws roots begins has e status held (is.status_is ∙ ap (λ (t : State). t.status) is.state) is.held_is why)
           end
 

@@ -47,6 +47,9 @@ unfoldable pub use Rattle.policy_glue.specs.Documents.{document_of}
 unfoldable pub use Rattle.policy_glue.specs.Evaluation.{decision_of}
 unfoldable pub use Rattle.policy_glue.specs.Reading.{policy_in}
 unfoldable pub use Rattle.policy_glue.specs.Verdict.{verdict_of}
+pub use Rattle.run_ends.specs.Exiting.{HasExited}
+pub use Rattle.run_ends.specs.declared.no_exit.NoExit.{NoExit}
+pub use Rattle.run_ends.specs.declared.no_exit.NoExit.TheVariants.{Stopped}
 pub use Rattle.serde_json.proofs.Views.{view-Object, view-lookup, view_of_ref}
 pub use Rattle.serde_json.specs.Find.{get, get_member}
 pub use Rattle.serde_json.specs.Read.{max_depth, of_items, of_json, of_members}
@@ -59,7 +62,7 @@ pub use Rattle.value_store.specs.declared.table_error.TableError.{TableError}
 pub use Rattle.value_store.specs.declared.table_error.TableError.TheVariants.{RootsTooLarge}
 pub use Rattle.admission.specs.Deciding.{Reply, Case, Documents, IsAnswered, IsGateOn, IsPolicy, IsSaid, decision}
 pub use Rattle.admission.specs.Deciding.{AreGiven, started, values_given, values_of_roots}
-pub use Rattle.admission.specs.Exiting.{Exit, Exits, HasExited, IsExit, OfVerdict}
+pub use Rattle.admission.specs.Exiting.{Exit, Exits, IsExit, OfVerdict, no_exit_error}
 pub use Rattle.admission.specs.GatePolicies.{GatePolicy}
 pub use Rattle.admission.specs.Lent.{documents_in}
 pub use Rattle.admission.specs.OneAnswer.{ReviewHasOneResult}

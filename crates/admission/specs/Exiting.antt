@@ -1,9 +1,9 @@
 -- The state in which the program of a policy has exited on a review, and its verdict.
-use Rattle.std.specs.Prelude.{◌≡◌, ℕ, ◌≤◌, Bool, true, false, List, length, Result, Ok, Err}
+use Rattle.std.specs.Prelude.{◌≡◌, ℕ, ◌≤◌, List, length, Result, Ok, Err}
 use Rattle.guest_memory.specs.Memory.{IsMemory}
-use Rattle.guest_memory.specs.declared.fault.Fault as guest
 use Rattle.bpf_machine.specs.State.{State}
-use Rattle.bpf_machine.specs.declared.status.Status.{Status, TheVariants.Exited, TheVariants.Fault, TheVariants.Running}
+use Rattle.run_ends.specs.declared.no_exit.NoExit.{NoExit, TheVariants.Stopped}
+use Rattle.run_ends.specs.declared.no_exit.NoExit.TheVariants as no_exit
 use Rattle.policy_glue.specs.Layout.{IsLayout}
 use Rattle.policy_glue.specs.Policy.{Policy}
 use Rattle.policy_glue.specs.Verdict.{Verdict}
@@ -21,6 +21,12 @@ pub record Exit : Type 0 where
 abbrev pub exit_view : List ℕ → Result State RunError → Result Exit RunError
 exit_view uid (Ok state) = Ok (record { state = state; uid = uid })
 exit_view uid (Err e) = Err e
+
+-- why a review has no response if the program has not exited
+abbrev pub no_exit_error : NoExit → RunError
+no_exit_error Stopped = OverLimit
+no_exit_error no_exit.OutOfReads = OutOfReads
+no_exit_error no_exit.OutOfSteps = OutOfSteps
 
 -- the state after a run that exited, or why it did not
 abbrev pub exit_state : State → Result (Unit {0}) RunError → Result State RunError
@@ -48,12 +54,3 @@ Exits p d limits (Err e) = HasNoResponse d limits e
 abbrev pub OfVerdict : Policy → State → (Verdict → Type 0) → Type 0
 OfVerdict p s holds = (v : Verdict) → IsMemory s.memory → length v.findings ≤ length p.validations
     → IsLayout p.failure_policy v s.values.values s.memory.verdict → holds v
-
--- the program has exited, or its status says why there is no verdict; it may still run with a step left only if the
--- limit of reads held it; the error is never that memory is out
-abbrev pub HasExited : Status → Bool → Result (Unit {0}) RunError → Type 0
-HasExited s held (Ok u) = (w : ℕ) × (s ≡ Exited w)
-HasExited s held (Err OutOfSteps) = (s ≡ Running) × (held ≡ false)
-HasExited s held (Err OutOfReads) = (s ≡ Running) × (held ≡ true)
-HasExited s held (Err OverLimit) = (f : guest.Fault) × (s ≡ Fault f)
-HasExited s held (Err e) = ⊥

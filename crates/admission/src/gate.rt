@@ -15,7 +15,7 @@ ghost use Rattle.policy_glue.specs.Rejections.{rejection_of, rejection_view};
 ghost use Rattle.policy_glue.specs.Trees.{PolicyTree};
 ghost use Rattle.policy_glue.specs.Compiled.{CompilesTo};
 ghost use Rattle.admission.specs.Deciding.{answer_of, answer_view, is_allowed, AreGiven, Documents, IsGateOn, OpensGate, Reviews, values_given};
-ghost use Rattle.admission.specs.Exiting.{exit_state, exit_view, Exits, HasExited, OfVerdict};
+ghost use Rattle.admission.specs.Exiting.{exit_state, exit_view, Exits, OfVerdict};
 ghost use Rattle.admission.specs.GatePolicies.{gate_image};
 ghost use Rattle.admission.specs.Lent.{documents_in};
 ghost use Rattle.admission.specs.Decisions.{decision_value, decision_view, said_view, DecidesReview};
@@ -30,13 +30,14 @@ use crate::policy_refusal::PolicyRefusal;
 use crate::reply::Reply;
 use crate::run_error::RunError;
 use bpf_machine::laws::{limits_hold, starts_are_tables, states_are_kept};
-use bpf_machine::{Machine, Program, RunEnd, Status};
+use bpf_machine::{Machine, Program};
 use guest_memory::Guest;
 use policy_glue::{
     CompileError, Finding, Outcome, Policy, Rejection, Verdict, compile, conditions_name_namespace,
     findings_left, rejection_left, respond,
 };
 use review_tables::table_of_review;
+use run_ends::has_exited;
 use std::alloc::{AllocError, Global};
 use std::marker::Model;
 use value_store::ValueStore;
@@ -242,19 +243,6 @@ fn starts_stand()
     values_are_as_said();
     states_are_kept();
     limits_hold();
-}
-
-/// Checks that the policy's program has exited; else the error says why there is no verdict.
-/// The error is never `Memory`.
-fn has_exited(end: RunEnd) -> Result<(), RunError>
-    ensures { HasExited end.status end.is_held result }
-{
-    match end.status {
-        Status::Exited(_) => Ok(()),
-        Status::Fault(_) => Err(RunError::OverLimit),
-        Status::Running if end.is_held => Err(RunError::OutOfReads),
-        Status::Running => Err(RunError::OutOfSteps),
-    }
 }
 
 /// The reply to the request with this uid, from the verdict that the program left.

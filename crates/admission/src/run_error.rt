@@ -1,11 +1,13 @@
 //! Why a review has no response.
 ghost use Rattle.std.specs.Prelude.{◌≡◌};
+ghost use Rattle.admission.specs.Exiting.{no_exit_error};
 ghost use Rattle.admission.specs.Refusals.{run_policy_refusal};
 ghost use Rattle.admission.specs.Reviews.{refusal_at, table_refusal};
 ghost use Rattle.admission.specs.declared.run_error.RunError.TheVariants as run_error;
 
 use crate::policy_refusal::PolicyRefusal;
 use review_tables::ReviewError;
+use run_ends::NoExit;
 use std::alloc::AllocError;
 use thiserror::Error;
 
@@ -89,6 +91,18 @@ impl From<ReviewError> for RunError {
             ReviewError::RootRefused(place) => refusal_at(place),
             ReviewError::ChargeTooLarge => RunError::ReviewRefused,
             ReviewError::Memory => RunError::Memory,
+        }
+    }
+}
+
+impl From<NoExit> for RunError {
+    ghost from_gives = { λ e r. r ≡ no_exit_error e };
+
+    fn from(error: NoExit) -> RunError {
+        match error {
+            NoExit::Stopped => RunError::OverLimit,
+            NoExit::OutOfReads => RunError::OutOfReads,
+            NoExit::OutOfSteps => RunError::OutOfSteps,
         }
     }
 }

@@ -1,0 +1,2 @@
+-- Definitions of run_ends: the list of their modules.
+pub mod Exiting
