@@ -67,17 +67,27 @@ const DIS_ERRORS: [(DisError, &str, &str); 3] = [
 ];
 
 #[test]
-fn errors_have_codes_and_words(rt: HostRuntime) -> Result<(), Fail> {
+fn errors_of_images_have_codes_and_words(rt: HostRuntime) -> Result<(), Fail> {
     for (error, code, words) in &LOAD_ERRORS {
-        assert_eq!(rt; error.code(), *code);
+        assert!(rt; error.code() == *code, "{code}");
         assert!(rt; has_words(rt.alloc(), error, words)?, "{words}");
     }
+    Ok(())
+}
+
+#[test]
+fn errors_of_sources_have_codes_and_words(rt: HostRuntime) -> Result<(), Fail> {
     for (error, code, words) in &ASM_ERRORS {
-        assert_eq!(rt; error.code(), *code);
+        assert!(rt; error.code() == *code, "{code}");
         assert!(rt; has_words(rt.alloc(), error, words)?, "{words}");
     }
+    Ok(())
+}
+
+#[test]
+fn errors_of_listings_have_codes_and_words(rt: HostRuntime) -> Result<(), Fail> {
     for (error, code, words) in &DIS_ERRORS {
-        assert_eq!(rt; error.code(), *code);
+        assert!(rt; error.code() == *code, "{code}");
         assert!(rt; has_words(rt.alloc(), error, words)?, "{words}");
     }
     Ok(())

@@ -108,14 +108,19 @@ fn made(alloc: Global, version: u8, code: &[u8], constants: &[u8]) -> Result<Ima
     }
 }
 
+/// The program's file as an image of each version.
+const PROGRAMS: [(u8, &[u8]); 2] = [(1, PROGRAM), (2, SECOND)];
+
+/// Whether the file is read as the program's image of this version, and written again.
+fn is_program(alloc: Global, version: u8, file: &[u8]) -> Result<bool, Fail> {
+    let image = Image::read(alloc, file)?;
+    Ok(has_parts(&image, version, &PROGRAM[16..], b"", file)?)
+}
+
 #[test]
 fn reads_and_writes_a_program(rt: HostRuntime) -> Result<(), Fail> {
-    for (version, file) in [(1, PROGRAM), (2, SECOND)] {
-        let image = Image::read(rt.alloc(), file)?;
-        assert!(rt;
-            has_parts(&image, version, &PROGRAM[16..], b"", file)?,
-            "version {version}"
-        );
+    for &(version, file) in &PROGRAMS {
+        assert!(rt; is_program(rt.alloc(), version, file)?, "version {version}");
     }
     Ok(())
 }
@@ -126,25 +131,35 @@ const FILES: [(u8, &[u8]); 2] = [
     (2, b"CELBPF02\x01\0\0\0\x03\0\0\0\x95\0\0\0\0\0\0\0abc"),
 ];
 
-/// Whether the image of `exit` and three constants has this file, and whether its copy has it.
-fn are_made(alloc: Global, version: u8, file: &[u8]) -> Result<[bool; 2], Fail> {
-    let exit = &PROGRAM[32..];
-    let image = made(alloc, version, exit, b"abc")?;
-    let copy = image.copy()?;
-    Ok([
-        has_parts(&image, version, exit, b"abc", file)?,
-        has_parts(&copy, version, exit, b"abc", file)?,
-    ])
+/// Whether the image has the parts `exit` and three constants, and this file.
+fn has_exit(image: &Image, version: u8, file: &[u8]) -> Result<bool, AllocError> {
+    has_parts(image, version, &PROGRAM[32..], b"abc", file)
+}
+
+/// Whether a copy of the image has them.
+fn copy_has_exit(image: &Image, version: u8, file: &[u8]) -> Result<bool, AllocError> {
+    has_exit(&image.copy()?, version, file)
+}
+
+/// The image of `exit` and three constants.
+fn exit_image(alloc: Global, version: u8) -> Result<Image, LoadError> {
+    made(alloc, version, &PROGRAM[32..], b"abc")
 }
 
 #[test]
 fn makes_images_of_parts(rt: HostRuntime) -> Result<(), Fail> {
-    for (version, file) in &FILES {
-        assert_eq!(rt;
-            are_made(rt.alloc(), *version, file)?,
-            [true, true],
-            "{version}"
-        );
+    for &(version, file) in &FILES {
+        let image = exit_image(rt.alloc(), version)?;
+        assert!(rt; has_exit(&image, version, file)?, "{version}");
+    }
+    Ok(())
+}
+
+#[test]
+fn copies_have_the_parts_of_images(rt: HostRuntime) -> Result<(), Fail> {
+    for &(version, file) in &FILES {
+        let image = exit_image(rt.alloc(), version)?;
+        assert!(rt; copy_has_exit(&image, version, file)?, "{version}");
     }
     Ok(())
 }
@@ -189,11 +204,19 @@ fn longest_file(alloc: Global) -> Result<Vec<u8>, LoadError> {
     Ok(image.write()?)
 }
 
+/// The lengths of the code and of the constants in a file.
+fn lengths(alloc: Global, file: &[u8]) -> Result<(usize, usize), LoadError> {
+    let image = Image::read(alloc, file)?;
+    Ok((image.code().len(), image.constants().len()))
+}
+
+/// The lengths that are read from that file.
+fn longest_lengths(alloc: Global) -> Result<(usize, usize), LoadError> {
+    lengths(alloc, longest_file(alloc)?.as_slice())
+}
+
 #[test]
 fn takes_the_longest_parts(rt: HostRuntime) -> Result<(), Fail> {
-    let file = longest_file(rt.alloc())?;
-    let image = Image::read(rt.alloc(), file.as_slice())?;
-    assert_eq!(rt; image.code().len(), 524_288);
-    assert_eq!(rt; image.constants().len(), 1_048_576);
+    assert_eq!(rt; longest_lengths(rt.alloc())?, (524_288, 1_048_576));
     Ok(())
 }

@@ -89,7 +89,7 @@ fn is_line(alloc: Global, op: AtomicOp, width: Width, word: &str, bits: u8) -> R
 
 #[test]
 fn each_atomic_operation_has_its_lines(rt: HostRuntime) -> Result<(), Fail> {
-    for (op, word) in ATOMIC_WORDS {
+    for &(op, word) in &ATOMIC_WORDS {
         assert!(rt; is_line(rt.alloc(), op, Width::W32, word, 32)?);
         assert!(rt; is_line(rt.alloc(), op, Width::W64, word, 64)?);
     }

@@ -126,7 +126,7 @@ fn lists(alloc: Global, slot: u64, line: &str) -> Result<bool, DisError> {
 
 #[test]
 fn each_instruction_has_its_line(rt: HostRuntime) -> Result<(), Fail> {
-    for (slot, line) in INSTRUCTIONS {
+    for &(slot, line) in &INSTRUCTIONS {
         assert!(rt; lists(rt.alloc(), slot, line)?, "lists {line}");
     }
     Ok(())
@@ -134,7 +134,7 @@ fn each_instruction_has_its_line(rt: HostRuntime) -> Result<(), Fail> {
 
 #[test]
 fn each_other_slot_has_its_line(rt: HostRuntime) -> Result<(), Fail> {
-    for (slot, line) in SLOTS {
+    for &(slot, line) in &SLOTS {
         assert!(rt; lists(rt.alloc(), slot, line)?, "lists {line}");
     }
     Ok(())
@@ -157,7 +157,7 @@ const LENGTHS: [(usize, DisError); 3] = [
 
 #[test]
 fn refuses_lengths(rt: HostRuntime) -> Result<(), Fail> {
-    for (length, error) in LENGTHS {
+    for &(length, error) in &LENGTHS {
         let code = vec![in rt.alloc(); 0; length]?;
         assert!(rt;
             listing(rt.alloc(), &code).err() == Some(error),

@@ -40,7 +40,7 @@ const REFUSED: [(u64, Size, Option<Fault>, Option<Fault>); 10] = [
 
 #[test]
 fn refuses_loads_and_stores(rt: HostRuntime) -> Result<(), Fail> {
-    for (addr, size, load, store) in REFUSED {
+    for &(addr, size, load, store) in &REFUSED {
         let guest = start(rt.alloc(), b"constants")?;
         assert!(rt; load_fault(&guest, addr, size) == load, "loads {addr}");
         assert!(rt; guest.stores(addr, size).err() == store, "may store {addr}");
@@ -115,7 +115,7 @@ const WORDS: [u64; 8] = [
 
 #[test]
 fn copies_see_no_later_store(rt: HostRuntime) -> Result<(), Fail> {
-    for addr in WORDS {
+    for &addr in &WORDS {
         assert!(rt;
             words_apart(rt.alloc(), addr)? == [Some(3), Some(2)],
             "at {addr}"
@@ -147,7 +147,7 @@ fn fill(guest: &mut Guest, page: u64, byte: u64) -> Result<(), WriteError> {
 
 /// The memory with a byte as the first and the last of each page.
 fn filled(mut guest: Guest, byte: u64) -> Result<Guest, Fail> {
-    for page in PAGES {
+    for &page in &PAGES {
         fill(&mut guest, page, byte)?;
     }
     Ok(guest)
@@ -156,7 +156,7 @@ fn filled(mut guest: Guest, byte: u64) -> Result<Guest, Fail> {
 /// The sum of the first and the last byte of each page.
 fn sum(guest: &Guest) -> u64 {
     let mut sum = 0u64;
-    for page in PAGES {
+    for &page in &PAGES {
         let first = word(guest, page, B).unwrap_or(0);
         let last = word(guest, page.saturating_add(255), B).unwrap_or(0);
         sum = sum.saturating_add(first).saturating_add(last);

@@ -70,7 +70,12 @@ fn slots(opcode: u8, offset: u8, imm: i32) -> [u64; 4] {
 
 #[test]
 fn operations(rt: HostRuntime) -> Result<(), Fail> {
-    for ((opcode, offset, imm), (dst, operand), [imm_64, reg_64], [imm_32, reg_32]) in OPERATIONS {
+    for &(
+        (opcode, offset, imm),
+        (dst, operand),
+        [imm_64, reg_64],
+        [imm_32, reg_32],
+    ) in &OPERATIONS {
         let [first, second, third, fourth] = slots(opcode, offset, imm);
         let rows = [
             (dst, operand, first, imm_64),

@@ -190,7 +190,7 @@ const ROWS: [(&[u8], &[u8], &[u8]); 3] = [
 
 #[test]
 fn images_of_earlier_compilers_are_shown(rt: HostRuntime) -> Result<(), Fail> {
-    for (magic, input, said) in ROWS {
+    for &(magic, input, said) in &ROWS {
         assert!(rt; says(rt.alloc(), magic, input, said)?);
     }
     Ok(())

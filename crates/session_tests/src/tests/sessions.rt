@@ -111,7 +111,7 @@ fn says(
 
 #[test]
 fn breaks_and_lists(rt: HostRuntime) -> Result<(), Fail> {
-    for (code, input, said) in COMMANDS {
+    for &(code, input, said) in &COMMANDS {
         assert!(rt; says(rt.alloc(), code, input, said, 1000)?);
     }
     Ok(())
@@ -135,7 +135,7 @@ const TALKS: [(&[u8], &[u8]); 8] = [
 
 #[test]
 fn answers_lines(rt: HostRuntime) -> Result<(), Fail> {
-    for (input, said) in TALKS {
+    for &(input, said) in &TALKS {
         for piece in [1usize, 2, 1000] {
             assert!(rt; says(rt.alloc(), CODE, input, said, piece)?);
         }
@@ -209,7 +209,7 @@ fn says_one_of(alloc: Global, input: &'static [u8], said: &[&[u8]]) -> Result<bo
 
 #[test]
 fn refuses_single_lines(rt: HostRuntime) -> Result<(), Fail> {
-    for (input, said) in REFUSED {
+    for &(input, said) in &REFUSED {
         assert!(rt; says_one_of(rt.alloc(), input, &said)?);
     }
     Ok(())

@@ -50,7 +50,7 @@ fn says(alloc: Global, image: Image, input: &'static [u8], said: &[u8]) -> Resul
 
 #[test]
 fn shows_words_of_each_version(rt: HostRuntime) -> Result<(), Fail> {
-    for (version, said) in ROWS {
+    for &(version, said) in &ROWS {
         let told = image(rt.alloc(), version, TOLD)?;
         let input = b"w\nc 100\nw\ng 3\nw\nw 1\n";
         assert!(rt; says(rt.alloc(), told, input, said)?, "version {version}");

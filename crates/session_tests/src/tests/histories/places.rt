@@ -24,7 +24,7 @@ const REPLAYED: [(u64, u64); 9] = [
 
 /// The first of these places that is shown with a different number of steps.
 fn wrong_replay(history: &mut Past<Plain>) -> Result<Option<u64>, AllocError> {
-    for (place, steps) in REPLAYED {
+    for &(place, steps) in &REPLAYED {
         history.go(place)?;
         if history.replayed() != steps {
             return Ok(Some(place));

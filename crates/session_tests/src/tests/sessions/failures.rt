@@ -40,7 +40,7 @@ const FAILED_READS: [(u64, &[u8]); 7] = [
 
 #[test]
 fn stops_where_a_read_fails(rt: HostRuntime) -> Result<(), Fail> {
-    for (fails_at, said) in FAILED_READS {
+    for &(fails_at, said) in &FAILED_READS {
         assert!(rt;
             stops_at_read(rt.alloc(), SCRIPT, fails_at, said)?,
             "at read {fails_at}"
