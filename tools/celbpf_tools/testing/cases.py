@@ -13,6 +13,7 @@ BESIDE = ("policy", "namespace", "params", "cluster", "steps")
 REVIEW = ("object", "oldObject", "operation", "request")
 WANTED = ("expect", "message", "contains", "refusal")
 OUTCOMES = ("allowed", "denied")
+OPERATIONS = ("CREATE", "UPDATE", "DELETE", "CONNECT")
 
 
 class Broken(Exception):
@@ -84,6 +85,8 @@ def case_of(path: Path, place: int, given: Any, shared: dict[str, Any]) -> Case:
     for key in ("name", "operation", *WANTED):
         if key in given and not isinstance(given[key], str):
             raise Broken(f"{where}: {key} is not a text")
+    if given.get("operation", "CREATE") not in OPERATIONS:
+        raise Broken(f"{where}: operation is {given['operation']!r}, and not {', '.join(OPERATIONS)}")
     beside = {**shared, **{key: given[key] for key in BESIDE if given.get(key) is not None}}
     if "policy" not in beside and "cluster" not in beside:
         beside["policy"] = policy_beside(path)

@@ -40,6 +40,8 @@ class Reading(Files):
             (case % '{"review": "a", "object": {}}', "case 0: a review and object: one of the two is enough"),
             (case % '{"object": {}}', "case 0: wants one of expect and refusal"),
             (case % '{"object": {}, "expect": true}', "case 0: expect is not a text"),
+            (case % '{"object": {}, "operation": "create", "expect": "allowed"}',
+             "case 0: operation is 'create', and not CREATE, UPDATE, DELETE, CONNECT"),
             ('{"cases": [{"object": {}, "expect": "allowed"}]}',
              "no `policy`, and none of policy.json, policy.yaml, policy.yml beside it"),
         ]:
@@ -51,8 +53,25 @@ class Reading(Files):
         review = review_of_parts({"object": thing, "request": {"dryRun": True}}, "u", self.folder)
         self.assertEqual(review["request"], {
             "uid": "u", "operation": "CREATE", "kind": {"group": "apps", "version": "v1", "kind": "Deployment"},
+            "resource": {"group": "apps", "version": "v1", "resource": "deployments"},
             "name": "web", "namespace": "shop", "object": thing, "dryRun": True,
         })
+
+    def test_a_review_of_a_namespace_and_of_a_kind_that_is_not_built_in(self) -> None:
+        thing = {"apiVersion": "v1", "kind": "Namespace", "metadata": {"name": "shop"}}
+        request = review_of_parts({"object": thing}, "u", self.folder)["request"]
+        self.assertEqual((request["namespace"], request["resource"]["resource"]), ("shop", "namespaces"))
+        thing = {"apiVersion": "a.example/v1", "kind": "Thing", "metadata": {"name": "shop"}}
+        self.assertNotIn("resource", review_of_parts({"object": thing}, "u", self.folder)["request"])
+
+    def test_numbers_and_quantities_are_as_check_has_them(self) -> None:
+        limits = {"cpu": 0.5, "memory": "1024Mi"}
+        spec = {"containers": [{"name": "a", "resources": {"limits": limits}}], "priority": 1e3}
+        thing = {"apiVersion": "v1", "kind": "Pod", "metadata": {"name": "a"}, "spec": spec}
+        for key in ("object", "oldObject"):
+            made = review_of_parts({key: thing}, "u", self.folder)["request"][key]["spec"]
+            self.assertEqual(made, {"containers": [{"name": "a", "resources": {"limits": {"cpu": "500m", "memory": "1Gi"}}}], "priority": 1000})
+        self.assertEqual(limits, {"cpu": 0.5, "memory": "1024Mi"})
 
     def test_empty_values_that_an_api_server_leaves_out(self) -> None:
         user = {"username": "", "uid": "", "groups": [], "extra": {}}

@@ -168,7 +168,8 @@ def report_of(given: argparse.Namespace, progress: Callable[[], None] = lambda: 
         warn(given, deciding)
         for result, answer in zip(made.asked, deciding.decide(made.lines)):
             result.outcome, result.message, result.findings = answer
-    report = Report(made.results, found.troubles, deciding.policies, given.fail_on_warn)
+    refused = list(deciding.blocked) if given.policies else []
+    report = Report(made.results, found.troubles, deciding.policies, given.fail_on_warn, refused)
     tell_errors(report)
     return report
 

@@ -47,12 +47,15 @@ class Result:
 
 @dataclass
 class Report:
-    """All results, what could not be read, the policies that were asked, and whether a warning is a failure."""
+    """All results, what could not be read, the policies that were asked, whether a warning is a failure, and the policies
+    that were given and are refused.
+    """
 
     results: list[Result] = field(default_factory=list)
     troubles: list[Trouble] = field(default_factory=list)
     policies: list[str] = field(default_factory=list)
     fails_on_warn: bool = False
+    refused: list[str] = field(default_factory=list)
 
     def count(self, outcome: str) -> int:
         """The number of objects with an outcome."""
@@ -64,7 +67,7 @@ class Report:
 
     @property
     def status(self) -> int:
-        if self.troubles or self.findings(ERROR):
+        if self.troubles or self.refused or self.findings(ERROR):
             return REFUSED
         is_warned = self.fails_on_warn and self.findings(WARN)
         return BAD if self.count(DENIED) or is_warned else GOOD
