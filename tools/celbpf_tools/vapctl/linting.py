@@ -8,11 +8,13 @@ from dataclasses import dataclass
 from typing import Any, Optional
 
 from ..asking import policies
+from ..asking.keys import LEAST
 from ..asking.program import Program
 from ..asking.refused import Refused, refused
 from ..asking.texts import pointed
 from .cluster import VERSION
 from .inputs import Thing
+from .key_causes import cause
 from .one_decision import policy_text
 from .positions import Marks, Path, Position
 from .reports.texts import on_line
@@ -23,6 +25,8 @@ LISTS = {"variable": "variables", "condition": "matchConditions", "validation": 
 KEYS = {"message": "messageExpression"}
 # what `Keys` says of an item, a specification or a document that lacks a key
 MISSING = tuple(f"{key} is missing" for key in ("expression", "name", "spec", "validations"))
+# the number of steps of a path such as `spec.validations[0].message`
+ITEM_DEPTH = 4
 # a key, or a place in a list, of the path of a key
 STEP = re.compile(r"([^.\[\]]+)|\[([0-9]{1,9})\]")
 # literals of types that the language does not have
@@ -63,6 +67,8 @@ class Fault:
             return outside(self.refused.part.text, self.refused.begin) or self.refused.meaning
         if self.refused.key and self.refused.value in MISSING:
             return str(self.refused.value)
+        if self.code == "K3" and self.refused.key:
+            return cause(self.refused.key, self.refused.value) or self.refused.meaning
         if self.code == "K2":
             return f"its apiVersion is {self.policy.api_version}, and not {VERSION}"
         return self.refused.meaning
@@ -109,13 +115,37 @@ def without(policy: dict[str, Any], part: policies.Part) -> Any:
     return made
 
 
+def without_key(policy: Any, refusal: str, found: Refused) -> Any:
+    """A policy without a key that K3 refuses, so that what else is refused is shown; `None` if there is no such policy."""
+    path = path_of_key(found.key) if refusal.split()[0] == "K3" and found.value not in MISSING else ()
+    if len(path) < 1 or path[-1] in ("spec", "validations"):
+        return None
+    made = copy.deepcopy(policy)
+    holder = made
+    try:
+        for step in path[:-1]:
+            holder = holder[step]
+        del holder[path[-1]]
+    except (KeyError, IndexError, TypeError):
+        return None
+    if len(path) == ITEM_DEPTH and path[1] in LEAST:
+        # what its list needs, so that no missing key is told of a misspelled one
+        for name, value in LEAST[str(path[1])].items():
+            holder.setdefault(name, f"{value}{path[2]}" if name == "name" else value)
+    return made
+
+
 def faults(program: Program, thing: Thing, marks: Optional[Marks]) -> Iterator[Fault]:
-    """The refusals of a policy, in the order in which it is compiled. One of the whole document ends them."""
+    """The refusals of a policy, in the order in which it is compiled. One of the whole document but K3 of a key ends them."""
     policy: Any = json.loads(policy_text(thing))
     seen: set[Path] = set()
     while refusal := program.refusal(policy):
         found = refused(program, policy, refusal)
         yield Fault(thing, refusal, found, position_of(thing, found, marks))
+        changed = without_key(policy, refusal, found)
+        if changed is not None:
+            policy = changed
+            continue
         if found.part is None or path_of(found.part) in seen or refusal.split()[0] in ("G3", "G4"):
             return
         seen.add(path_of(found.part))

@@ -4,6 +4,7 @@ from ..asking.refused import MEANINGS
 
 BLOCKED = {"C8": "the kind of its params is not among the inputs: give a definition of it, or an object"}
 NO_NAMESPACE = "a match condition reads namespaceObject, which is null there in a cluster: write dyn(null)"
+NAMES_KEY = "; `vapctl lint` names the key"
 # the number of words of a refusal of an expression before its place, as in `K6 validation 0 P4 at 7`
 EXPRESSION = 4
 
@@ -17,7 +18,8 @@ def words_of(refusal: str) -> str:
         name = f" {more[0]}" if more and more[0] != "at" else ""
         after = f" at byte {more[-1]}" if "at" in more else ""
         return f"{where}: {MEANINGS.get(cause, 'it is refused')}{after} ({cause}{name})"
-    return f"{MEANINGS[parts[0]]} ({refusal})" if parts and parts[0] in MEANINGS else refusal
+    key = NAMES_KEY if parts[:1] == ["K3"] else ""
+    return f"{MEANINGS[parts[0]]} ({refusal}){key}" if parts and parts[0] in MEANINGS else refusal
 
 
 # what `celbpf` says of documents and runs
@@ -35,10 +37,9 @@ OTHERS = {
 
 def words_of_refusal(line: str) -> str:
     """What `celbpf` says on standard error, in words."""
-    if line.startswith("N1 "):
-        return f"the policy is refused: {words_of(line.removeprefix('N1 '))}; `vapctl lint` shows all refusals"
-    if line.startswith(("K", "G")):
-        return f"the policy is refused: {words_of(line)}; `vapctl lint` shows all refusals"
+    if line.startswith(("N1 ", "K", "G")):
+        words = words_of(line.removeprefix("N1 "))
+        return f"the policy is refused: {words.removesuffix(NAMES_KEY)}; `vapctl lint` shows all refusals"
     return f"{OTHERS[line]} ({line})" if line in OTHERS else line
 
 

@@ -10,7 +10,7 @@ from ..asking.refused import Refused, refused
 from ..asking.wide_places import Found, Places
 from ..asking.wide_words import told
 from .inputs import Thing
-from .linting import Fault, path_of, position_of, without
+from .linting import Fault, path_of, position_of, without, without_key
 from .one_decision import policy_text
 from .positions import Marks, Path
 
@@ -27,12 +27,12 @@ class WideFault(Fault):
         if self.refused.part:
             return self.refused.meaning
         if ANNOTATIONS in self.refused.key:
-            return "audit annotations are not supported yet"
+            return "audit annotations are not supported yet: leave them out, and their values are not computed"
         return super().meaning
 
 
 def wide_faults(gatekeeper: Gatekeeper, thing: Thing, marks: Optional[Marks]) -> Iterator[Fault]:
-    """The refusals of a policy, in the order in which it is compiled. One of the whole document ends them."""
+    """The refusals of a policy, in the order in which it is compiled. One of the whole document but K3 of a key ends them."""
     policy: Any = json.loads(policy_text(thing))
     seen = set[Path]()
     while refusal := gatekeeper.refusal(policy):
@@ -41,6 +41,10 @@ def wide_faults(gatekeeper: Gatekeeper, thing: Thing, marks: Optional[Marks]) ->
             found = refused(gatekeeper, policy, refusal)
             part = found.part
             yield WideFault(thing, refusal, found, position_of(thing, found, marks))
+            changed = without_key(policy, refusal, found)
+            if changed is not None:
+                policy = changed
+                continue
         else:
             places = Places(gatekeeper, part)
             yield from faults_of_part(places, thing, marks, refusal)

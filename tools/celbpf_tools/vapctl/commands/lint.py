@@ -25,7 +25,7 @@ from ..wide_linting import wide_faults
 
 MORE = """Policies are judged as `vapctl` and `gatekeeper` read them (docs/LANGUAGE.md), with --profile as `celbpf` does
 (docs/CEL.md). Each refusal has the line and the column in the file, the part of the policy, what is meant, and its code,
-and mostly what to write instead. Refusals of the whole document, such as K3, are shown one at a time."""
+and mostly what to write instead. A refusal of the whole document, such as K2, is shown alone."""
 FORMS = ("table", "json", "github")
 
 
