@@ -1,5 +1,8 @@
 """What the refusals of the language of clusters mean, and what to write instead."""
 
+import re
+
+from . import syntax_words
 from .refused import MEANINGS
 from .wide_places import OF_OPTIONALS, Found
 from .wide_splitter import NAMESPACES, namespace_of
@@ -9,7 +12,7 @@ TYPES = ("int", "uint", "double", "string", "bool", "bytes", "null_type", "list"
 # functions and methods of API servers that are not supported, and what to write instead, if it is known
 LATER = {
     "matches": "startsWith, endsWith or contains for a fixed text, `e in ['a', 'b']` for a choice",
-    "split": "`e == 'a' || e.startsWith('a/')` for `e.split('/')[0] == 'a'`",
+    "split": "`(',' + e + ',').contains(',' + x + ',')` for `x in e.split(',')`, `e.startsWith('a/')` for a first part",
     "join": "an item, such as `l[0]`",
     "format": "`+`, with `string(e)` for an int or a bool",
     "substring": "startsWith or endsWith",
@@ -20,8 +23,8 @@ LATER = {
     "upperAscii": "each spelling: `e in ['a', 'A']`",
     "sum": "", "isSorted": "", "distinct": "", "reverse": "", "slice": "", "flatten": "", "sort": "",
     "type": "",
-    "int": "an int in the document", "double": "an int", "uint": "an int", "bytes": "a text",
-    "quantity": "a choice of texts, such as `e in ['500m', '1']`",
+    "int": "an int in the document, or a comparison of texts such as `e == '3'`", "double": "an int", "uint": "an int", "bytes": "a text",
+    "quantity": "if few are allowed, a choice of texts, such as `e in ['500m', '1']`; nothing compares quantities",
     "isQuantity": "", "duration": "a choice of texts", "timestamp": "", "semver": "startsWith for a major version",
     "isSemver": "", "ip": "", "isIP": "", "cidr": "", "isCIDR": "", "url": "startsWith", "isURL": "startsWith",
     "strings.quote": "", "lists.range": "the list itself, as `[0, 1, 2]`",
@@ -34,6 +37,8 @@ NOT_THERE = {
 }
 # macros of two names whose kin of one name has another
 OF_ONE_NAME = {"transformList": "map", "existsOne": "exists_one"}
+# a name after a dot, and a minus
+DASHED = re.compile(r"\.([A-Za-z_]\w*(?:-[A-Za-z_]\w*)*)-$")
 AS_VALUE = "`.orValue(..)` for its value, or `.hasValue()`"
 
 
@@ -77,7 +82,7 @@ def optional_told(found: Found, _: str) -> tuple[str, str]:
     return "an optional value stands where a value is needed", AS_VALUE
 
 
-def name_told(found: Found, _: str) -> tuple[str, str]:
+def name_told(found: Found, text: str) -> tuple[str, str]:
     """A name or a form that is not known."""
     piece, name = found.piece, found.name
     if piece is None:
@@ -87,6 +92,9 @@ def name_told(found: Found, _: str) -> tuple[str, str]:
     if piece.kind == "macro" and name != piece.word:
         return f"`{name}` is not taken as the name of an item", "another name"
     if piece.kind == "leaf":
+        dashed = DASHED.search(text[: found.begin])
+        if dashed:
+            return f"`-` is no part of a name after a dot: `{name}` is read as a name", f"`['{dashed[1]}-{name}']` without the dot"
         return leaf_told(name, found.text)
     space = namespace_of(piece)
     if space == "authorizer":
@@ -124,11 +132,16 @@ def form_told(found: Found) -> tuple[str, str]:
     assert piece is not None
     if piece.kind == "macro":
         word = OF_ONE_NAME.get(piece.word, piece.word)
-        hint = f"of a map `m.{word}(k, ..)` with `m[k]` for the value"
+        hint = f"of a map `m.{word}(k, ..)` with `m[k]` for the value, of a list `l.{word}(x, ..)`, which has no index"
         return f"`{piece.name.split()[0]}` may be used only if the range is known to be a map", hint
     if piece.form == "index":
         return "an optional index is a text or an int of at least 0, written out", "`k in e ? e[k] : ..`"
     return MEANINGS["W5"], ""
+
+
+def syntax_told(found: Found, text: str) -> tuple[str, str]:
+    """A character or a token that does not fit."""
+    return syntax_words.told(found.cause, text, found.begin)
 
 
 def entry_told(found: Found, _: str) -> tuple[str, str]:
@@ -141,4 +154,7 @@ def depth_told(_: Found, __: str) -> tuple[str, str]:
     return MEANINGS["W10"], "variables for parts of it"
 
 
-OF_CAUSES = {"W1": bytes_told, "W2": number_told, "W3": map_told, "W4": optional_told, "W5": name_told, "W6": entry_told, "W10": depth_told}
+OF_CAUSES = {
+    "P1": syntax_told, "P4": syntax_told, "W1": bytes_told, "W2": number_told, "W3": map_told, "W4": optional_told, "W5": name_told, "W6": entry_told,
+    "W10": depth_told,
+}

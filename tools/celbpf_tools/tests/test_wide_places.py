@@ -125,7 +125,8 @@ class Words(unittest.TestCase):
     def test_words_and_what_to_write(self) -> None:
         for text, cause, name, due in [
             ("a.split(',')", "W5", "split",
-             ("`split` is not supported yet", "`e == 'a' || e.startsWith('a/')` for `e.split('/')[0] == 'a'`")),
+             ("`split` is not supported yet",
+              "`(',' + e + ',').contains(',' + x + ',')` for `x in e.split(',')`, `e.startsWith('a/')` for a first part")),
             ("lists.range(3)", "W5", "range", ("`lists.range` is not supported yet", "the list itself, as `[0, 1, 2]`")),
             ("cel.bind(x, 1, x)", "W5", "bind", ("no API server up to 1.36 has `cel.bind`", "a variable of the policy")),
             ("authorizer.path('/')", "W5", "path", ("the decisions of the authorizer are not known here", "")),
@@ -145,7 +146,8 @@ class Words(unittest.TestCase):
              ("`or` needs an optional value between its brackets", "`or` with an optional value, `orValue` with another")),
             ("o[k]", "W4", "", ("an optional value is indexed by what is no literal", "`k in o.orValue({}) ? o.orValue({})[k] : ..`")),
             ("m.transformList(k, v, k)", "W5", "",
-             ("`k` may be used only if the range is known to be a map", "of a map `m.map(k, ..)` with `m[k]` for the value")),
+             ("`k` may be used only if the range is known to be a map",
+              "of a map `m.map(k, ..)` with `m[k]` for the value, of a list `l.map(x, ..)`, which has no index")),
             ("a.b", "W10", "", ("it is nested more than 512 deep", "variables for parts of it")),
             ("a", "M3", "", ("has() is asked of what is no field", "")),
         ]:

@@ -17,6 +17,7 @@ from .positions import Marks, Path
 # of the whole policy, so that no other part is to blame
 OF_SIZE = ("G3", "G4")
 ANNOTATIONS = "auditAnnotations"
+STAND_IN = "dyn(null)"
 
 
 class WideFault(Fault):
@@ -61,6 +62,9 @@ def faults_of_part(places: Places, thing: Thing, marks: Optional[Marks], refusal
     """The refusals in a part, or that of the part as a whole."""
     part = places.part
     all_found = list(places.found()) or [Found(refusal.split()[3], 0, len(part.text))]
+    # what stands for a piece that is refused itself says nothing of the operands around it
+    own_words = [found for found in all_found if STAND_IN in part.text or STAND_IN not in told(found, part.text)[0]]
+    all_found = own_words or all_found
     for found in all_found:
         meaning, hint = told(found, part.text)
         piece = Refused(meaning, part, found.begin, found.end)
