@@ -2,12 +2,13 @@
 
 import argparse
 import json
+from collections.abc import Iterator
 from pathlib import Path
 from typing import Any, Optional
 
 from ..entry import Stop
 from ..manifests.sending import object_sent
-from .checking import add_request_words, refuse_user, resources_of, stop, stop_at
+from .checking import add_request_words, refuse_user, resources_of, stop, stop_at, tell
 from .cluster import POLICY, as_stored, is_of
 from .inputs import REVIEW, Inputs, Thing, Trouble
 from .requests import OPERATIONS, Asked, NoReview, Reviews
@@ -45,6 +46,29 @@ def named(things: list[Thing], name: Optional[str], what: str, option: str) -> T
     stop([f"no {what} is called {name}; there are {found}"])
 
 
+def is_asked(constraints: Any, resource: str) -> bool:
+    """Whether some rule of constraints may match a resource, of whatever group and version; without rules none is known."""
+    rules = constraints.get("resourceRules") if isinstance(constraints, dict) else None
+    if not isinstance(rules, list) or not rules:
+        return True
+    names = [str(name) for rule in rules if isinstance(rule, dict) for name in rule.get("resources") or []]
+    return any(name in ("*", "*/*") or name.partition("/")[0] in (resource, "*") for name in names)
+
+
+def notices(policy: dict[str, Any], request: dict[str, Any], has_params: bool) -> Iterator[str]:
+    """What the decision of a policy alone lacks that one in a cluster has."""
+    spec = policy.get("spec") if isinstance(policy.get("spec"), dict) else {}
+    assert isinstance(spec, dict)
+    resource = request.get("resource")
+    plural = resource.get("resource") if isinstance(resource, dict) else None
+    if isinstance(plural, str) and not is_asked(spec.get("matchConstraints"), plural):
+        yield f"its matchConstraints have no rule for {plural}: a cluster does not ask this policy"
+    if spec.get("paramKind") and not has_params:
+        yield "the policy has a paramKind, and without --params its params are null"
+    if "userInfo" in str(spec) and "userInfo" not in request:
+        yield "the policy reads request.userInfo, which the request has with --user alone"
+
+
 class Decision:
     """The files of a decision, in a folder, and how messages call them."""
 
@@ -59,6 +83,9 @@ class Decision:
         self.shown = [str(self.policy.place), f"{self.review.place} {self.review.title}"]
         for key, file in (("namespace", given.namespace_object), ("params", given.params)):
             self.files[key] = self.document(key, file) if file else None
+        request = json.loads(Path(str(self.files["review"])).read_text(encoding="utf-8", errors="surrogatepass")).get("request")
+        for line in notices(self.policy.value, request if isinstance(request, dict) else {}, bool(given.params)):
+            tell(line)
 
     def read(self, word: str) -> list[Thing]:
         """The objects of an input, which has to be read whole."""
