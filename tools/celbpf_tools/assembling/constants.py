@@ -3,6 +3,7 @@
 from dataclasses import dataclass, field
 from typing import Optional
 
+from .forms import FORMS
 from .scanning import Fault, Pieces, bytes_of
 
 # where the constants of an image are in a program's memory
@@ -28,6 +29,8 @@ class Constants:
             if piece.kind == "text":
                 self.bytes += bytes_of(pieces.take())
             else:
+                if piece.text in FORMS:
+                    raise Fault(piece.column, f"{piece.shown} is an instruction; a line `.code` ends the constants")
                 value, column = pieces.number('a text such as "a", or a byte,')
                 if not 0 <= value <= 255:
                     raise Fault(column, f"{value} is no byte, 0 to 255")

@@ -1,6 +1,7 @@
 """The instruction of a line, as `celbpf asm` spells it, with the names that it uses."""
 
 import difflib
+import re
 from dataclasses import dataclass
 from typing import Callable
 
@@ -10,6 +11,14 @@ from .scanning import Fault, Piece, Pieces
 
 REGISTERS = tuple(f"r{number}" for number in range(11))
 SIZE = ".size"
+# the eight bytes of a slot in stored order
+SLOT = re.compile(r"0x[0-9a-f]{16}")
+# what other assemblers call an instruction or a section, or what is meant by an operation that BPF does not have
+OTHER_NAMES = {
+    "ret": "exit", ".text": ".code", "je32": "jeq32", "je64": "jeq64", "jz32": "jeq32", "jz64": "jeq64", "jmp": "ja", "goto": "ja",
+    "xadd32": "atomic_add32", "xadd64": "atomic_add64", "atomic_fetch_xchg32": "atomic_xchg32", "atomic_fetch_xchg64": "atomic_xchg64",
+    "atomic_fetch_cmpxchg32": "atomic_cmpxchg32", "atomic_fetch_cmpxchg64": "atomic_cmpxchg64", "nop": "ja +0",
+}
 
 
 @dataclass
@@ -30,19 +39,25 @@ class Item:
     jump: tuple[Jump, ...] = ()
 
 
-def fits(value: int, bits: int, column: int) -> int:
+def fits(value: int, bits: int, column: int, more: str = "") -> int:
     """A number that fits a signed field."""
     if not -(1 << (bits - 1)) <= value < 1 << (bits - 1):
-        more = "; lddw loads 64 bits" if bits == 32 else ""
         raise Fault(column, f"{value} does not fit {bits} bits signed{more}")
     return value
+
+
+def instead(mnemonic: str, value: int) -> str:
+    """What to write for an immediate that does not fit 32 bits signed."""
+    if mnemonic.endswith("64") or mnemonic == "stdw":
+        return "; lddw loads 64 bits"
+    return f"; {value - (1 << 32)} has the same bits" if 0 <= value < 1 << 32 else ""
 
 
 class Operands:
     """The operands of an instruction, read one after another."""
 
-    def __init__(self, pieces: Pieces, constants: Constants):
-        self.pieces, self.constants = pieces, constants
+    def __init__(self, mnemonic: str, pieces: Pieces, constants: Constants):
+        self.mnemonic, self.pieces, self.constants = mnemonic, pieces, constants
         self.jumps: list[Jump] = []
         self.readers: dict[str, Callable[[], str]] = {
             REGISTER: self.register, IMMEDIATE: self.immediate, VALUE: self.value, MEMORY: self.memory, WIDE: self.wide,
@@ -62,7 +77,8 @@ class Operands:
     def register(self) -> str:
         piece = self.pieces.next
         if piece.text not in REGISTERS:
-            raise self.pieces.expected(EXPECTED[REGISTER])
+            more = "; registers are in lower case" if piece.text.lower() in REGISTERS else ""
+            raise self.pieces.expected(EXPECTED[REGISTER], more)
         return self.pieces.take().text
 
     def immediate(self, expected: str = EXPECTED[IMMEDIATE]) -> str:
@@ -71,15 +87,17 @@ class Operands:
         if piece.kind == "word" and piece.text.endswith(SIZE):
             return str(self.constant(self.pieces.take())[1])
         value, column = self.pieces.number(expected)
-        return str(fits(value, 32, column))
+        return str(fits(value, 32, column, instead(self.mnemonic, value)))
 
     def value(self) -> str:
         """A register or a number."""
         piece = self.pieces.next
         if piece.kind == "word" and not piece.text.endswith(SIZE):
-            if piece.text in REGISTERS:
+            if piece.text.lower() in REGISTERS:
                 return self.register()
-            raise self.pieces.expected(EXPECTED[VALUE])
+            name = piece.text
+            more = f"; `lddw` loads the address of a constant, and `{name}{SIZE}` is its size" if self.constants.found(name) else ""
+            raise self.pieces.expected(EXPECTED[VALUE], more)
         return self.immediate(EXPECTED[VALUE])
 
     def target(self, bits: int, kind: str) -> str:
@@ -131,19 +149,52 @@ def similar(name: str, names: list[str]) -> str:
     return f"; there is `{near[0]}`" if near else ""
 
 
+def meant(name: str) -> str:
+    """What may be meant by an instruction that is not there."""
+    if name.lower() in FORMS:
+        return "; instructions are in lower case"
+    if name in OTHER_NAMES:
+        return f"; write `{OTHER_NAMES[name]}`"
+    if re.fullmatch(r"atomic_(fetch_)?sub(32|64)", name):
+        return "; there is none: negate the register and add it"
+    if re.fullmatch(r"atomic_[a-z_]+(8|16)", name):
+        return "; atomic operations have 32 or 64 bits"
+    # a near name with another meaning helps nobody: one letter may turn a comparison round
+    near = difflib.get_close_matches(name, list(FORMS), 1, 0.8)
+    return f"; there is `{near[0]}`" if near else "; docs/MACHINE.md lists them"
+
+
+def slot_of(pieces: Pieces) -> Item:
+    """A slot by its bytes."""
+    piece = pieces.next
+    if piece.kind != "number" or not SLOT.fullmatch(piece.text.lower()):
+        raise pieces.expected("the eight bytes of a slot, 0x and 16 hex digits,")
+    pieces.take()
+    pieces.demand_end()
+    return Item(f".slot {piece.text.lower()}")
+
+
+def byte_fits(mnemonic: str, pieces: Pieces) -> None:
+    """Refuses a constant that has more bits than a store of bytes or half words takes."""
+    bits = {"stb": 8, "sth": 16}.get(mnemonic)
+    if bits is None or not pieces.left or pieces.left[-1].kind != "number":
+        return
+    number = Pieces("")
+    number.left = pieces.left[-2:] if len(pieces.left) > 1 and pieces.left[-2].text == "-" else pieces.left[-1:]
+    value, column = number.number(EXPECTED[IMMEDIATE])
+    if not -(1 << (bits - 1)) <= value < 1 << bits:
+        raise Fault(column, f"{value} has more than the {bits} bits that `{mnemonic}` stores")
+
+
 def item_of(pieces: Pieces, constants: Constants) -> Item:
     """The instruction or the slot of a line."""
     piece = pieces.take()
     if piece.text == ".slot":
-        value, column = pieces.number("the eight bytes of a slot, 0x and 16 hex digits,")
-        pieces.demand_end()
-        if not 0 <= value < 1 << 64:
-            raise Fault(column, f"{value} does not fit 64 bits")
-        return Item(f".slot 0x{value:016x}")
+        return slot_of(pieces)
     if piece.text not in FORMS:
-        near = similar(piece.text, list(FORMS)) or "; docs/ASSEMBLER.md lists them"
-        raise Fault(piece.column, f"no instruction is called {piece.shown}{near}")
-    operands = Operands(pieces, constants)
+        raise Fault(piece.column, f"no instruction is called {piece.shown}{meant(piece.text)}")
+    byte_fits(piece.text, pieces)
+    operands = Operands(piece.text, pieces, constants)
     words = operands.read(FORMS[piece.text])
     plain = f"{piece.text} {', '.join(words)}".rstrip()
     return Item(plain, 2 if piece.text == "lddw" else 1, tuple(operands.jumps))

@@ -85,6 +85,8 @@ def named(program: Program, line: Line) -> str:
     """The name that a line begins with, if it begins with one and a colon."""
     left = line.pieces.left
     if len(left) < 2 or left[0].kind != "word" or left[1].text != ":":
+        if left and left[-1].text == ":" and left[0].kind == "word":
+            raise Fault(left[1].column, "a label has letters, digits and `_` alone")
         return ""
     piece = line.pieces.take()
     line.pieces.take()

@@ -5,7 +5,7 @@ from dataclasses import dataclass
 
 PIECE = re.compile(r"""(?P<blank>[ \t]+)|(?P<comment>[;#].*)|(?P<text>"(?:[^"\\]|\\.)*")|(?P<word>\.?[A-Za-z_][A-Za-z0-9_]*(?:\.size)?)"""
                    r"""|(?P<number>[0-9][A-Za-z0-9_]*)|(?P<mark>[-+,:\[\]])""")
-NUMBER = re.compile(r"0|[1-9][0-9_]*|0x[0-9a-fA-F][0-9a-fA-F_]*")
+NUMBER = re.compile(r"0|[1-9](?:_?[0-9])*|0x[0-9a-fA-F](?:_?[0-9a-fA-F])*")
 # no number of 64 bits has more digits; Python converts no more than 4,300
 LONGEST = 100
 ESCAPE = re.compile(r"\\(?:x(?P<byte>[0-9a-fA-F]{2})|u\{(?P<point>[0-9a-fA-F]{1,6})\}|(?P<one>[nrt0\"\\]))|\\.?")
@@ -78,9 +78,9 @@ class Pieces:
         if self.left:
             raise self.expected("the end of the line")
 
-    def expected(self, what: str) -> Fault:
+    def expected(self, what: str, more: str = "") -> Fault:
         """The fault that something else is next."""
-        return Fault(self.next.column, f"{what} is expected, and here is {self.next.shown}")
+        return Fault(self.next.column, f"{what} is expected, and here is {self.next.shown}{more}")
 
     def number(self, what: str) -> tuple[int, int]:
         """A number, with `-` or `+` before it if it has a sign, and its column."""
@@ -92,7 +92,11 @@ class Pieces:
             raise self.expected(what)
         piece = self.take()
         if not NUMBER.fullmatch(piece.text):
-            why = "a number has no leading zeros" if piece.text.isdecimal() else "a number is decimal, or hex after 0x"
+            why = "a number is decimal, or hex after 0x"
+            if piece.text.isdecimal():
+                why = "a number has no leading zeros"
+            elif piece.text.endswith("_") or "__" in piece.text:
+                why = "a number has `_` between two digits alone"
             raise Fault(piece.column, f"{piece.shown}: {why}")
         if len(piece.text) > LONGEST:
             raise Fault(piece.column, "the number does not fit 64 bits")
@@ -101,12 +105,13 @@ class Pieces:
 
 def bytes_of(piece: Piece) -> bytes:
     """The bytes of a text, whose characters are UTF-8."""
-    inner, made, at = piece.text[1:-1], b"", 0
+    inner, made, at = piece.text[1:-1], bytearray(), 0
     while at < len(inner):
         found = ESCAPE.match(inner, at)
         column = piece.column + 1 + at
         if not found:
-            made, at = made + inner[at].encode("utf-8", "surrogatepass"), at + 1
+            made += inner[at].encode("utf-8", "surrogatepass")
+            at += 1
             continue
         if found["byte"]:
             made += bytes([int(found["byte"], 16)])
@@ -117,7 +122,7 @@ def bytes_of(piece: Piece) -> bytes:
         else:
             raise Fault(column, r'an escape is one of \n, \r, \t, \0, \", \\, \xHH and \u{H..}' + f", and here is `{found[0]}`")
         at = found.end()
-    return made
+    return bytes(made)
 
 
 def is_scalar(point: int) -> bool:

@@ -37,7 +37,7 @@ class Numbers(unittest.TestCase):
                 self.assertEqual(plain(f"mov64 r1, {number}"), f"mov64 r1, {wanted}\n")
 
     def test_none_of_32_bits(self) -> None:
-        for number in ("2147483648", "-2147483649", "0x", "0x_1", "00", "1x", "--1", "- r1", "1" * 5000, "0X1", "٣"):
+        for number in ("2147483648", "-2147483649", "0x", "0x_1", "00", "1x", "--1", "- r1", "1" * 5000, "0X1", "٣", "1_", "1__0", "0x1_"):
             with self.subTest(number), self.assertRaises(Fault):
                 plain(f"mov64 r1, {number}")
 
@@ -61,6 +61,45 @@ class Constants(unittest.TestCase):
         for text in ("a: exit\n.constants\na: 1\n", ".constants\na: 1\n.code\nja a\n", "a: exit\nlddw r1, a\n"):
             with self.subTest(text), self.assertRaises(Fault):
                 plain(text)
+
+
+class Slots(unittest.TestCase):
+    def test_have_sixteen_digits(self) -> None:
+        self.assertEqual(plain(".slot 0x0F10000000000000"), ".slot 0x0f10000000000000\n")
+        for digits in ("0x95", "95", "0x" + "1" * 15, "0x" + "1" * 17, "-0x" + "1" * 16, "0x1_" + "1" * 15, ""):
+            with self.subTest(digits), self.assertRaises(Fault) as raised:
+                plain(f".slot {digits}")
+            self.assertIn("16 hex digits", raised.exception.why)
+
+    def test_stores_take_the_bits_of_their_size(self) -> None:
+        for text in ("stb [r1], -128", "stb [r1], 255", "sth [r1], 0xffff", "sth [r1], -32768", "stw [r1], -1"):
+            with self.subTest(text):
+                plain(text)
+        for text in ("stb [r1], -129", "stb [r1], 256", "sth [r1], 0x10000", "sth [r1], -32769"):
+            with self.subTest(text), self.assertRaises(Fault) as raised:
+                plain(text)
+            self.assertIn("bits that `st", raised.exception.why)
+
+
+class Advice(unittest.TestCase):
+    def test_says_what_is_meant(self) -> None:
+        for text, wanted in [
+            ("je64 r1, 0, +1", "write `jeq64`"), ("xadd64 [r1], r2", "write `atomic_add64`"), (".text", "write `.code`"), ("ret", "write `exit`"),
+            ("atomic_fetch_xchg64 [r1], r2", "write `atomic_xchg64`"), ("atomic_sub64 [r1], r2", "negate the register"), ("nop", "write `ja +0`"),
+            ("atomic_add8 [r1], r2", "32 or 64 bits"), ("MOV64 r1, 1", "lower case"), ("mov64 R1, 1", "lower case"), ("mov64 r1, R2", "lower case"),
+            ("foo", "docs/MACHINE.md"), ("mov64 r0, 0xffffffff", "lddw loads 64 bits"), ("mov32 r0, 0xffffffff", "-1 has the same bits"),
+            ("stw [r1], 0xdeadbeef", "-559038737 has the same bits"), ("stdw [r1], 0xdeadbeef", "lddw loads 64 bits"),
+            ("jeq32 r1, 0x80000000, +0", "-2147483648 has the same bits"), ("ja32 +2147483648", "32 bits signed"), ("a-b:", "letters, digits"),
+            ('.constants\nx: "a"\nmov64 r0, 1', "a line `.code` ends"), ('.constants\nx: "a"\n.code\nmov64 r0, x', "`x.size` is its size"),
+        ]:
+            with self.subTest(text), self.assertRaises(Fault) as raised:
+                plain(text)
+            self.assertIn(wanted, raised.exception.why)
+
+    def test_jumps_have_no_other_bits(self) -> None:
+        with self.assertRaises(Fault) as raised:
+            plain("ja32 +2147483648")
+        self.assertNotIn("same bits", raised.exception.why)
 
 
 class Lines(unittest.TestCase):

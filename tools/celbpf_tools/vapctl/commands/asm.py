@@ -19,8 +19,6 @@ from ..statuses import GOOD, REFUSED, WORDS
 MORE = """It gives the image with the constants (-o), the text that `celbpf asm` takes (--plain), or both; without either it prints
 that text. The code of the image is what `celbpf asm` makes of it. docs/ASSEMBLER.md has the form. If lines are refused,
 each is shown with its column and what is expected there."""
-# the most faults that are shown
-MOST = 20
 
 
 def words(parser: argparse.ArgumentParser) -> None:
@@ -49,6 +47,8 @@ def run(given: argparse.Namespace) -> int:
         write(given.output, image)
     if given.plain or not given.output:
         write(given.plain or STDIN, program.plain)
+        if program.constants.bytes and not given.output:
+            print(f"vapctl: this text has no constants; -o IMAGE writes the {plural(len(program.constants.bytes), 'byte')} of them too", file=sys.stderr)
     return GOOD
 
 
@@ -69,7 +69,7 @@ def shown(name: str) -> str:
 def refuse(name: str, text: str, program: Program) -> None:
     """Shows each fault with its line, and ends the command."""
     lines = text.replace("\r\n", "\n").split("\n")
-    for number, fault in program.faults[:MOST]:
+    for number, fault in program.faults:
         print(f"{shown(name)}:{number}:{fault.column}: {escaped(fault.why)}", file=sys.stderr)
         at = fault.column - 1
         print(pointed(lines[number - 1].replace("\t", " "), at, at + 1), file=sys.stderr)
