@@ -52,6 +52,11 @@ class Code:
         """The number of the line that a slot belongs to, or `None` outside the code."""
         return bisect.bisect_right(self.starts, slot) if self.has(slot) else None
 
+    def start_of(self, slot: int) -> Optional[int]:
+        """The first slot of the instruction that a slot belongs to, or `None` outside the code."""
+        line = self.line_of(slot)
+        return None if line is None else self.lines[line - 1].slot
+
     def slot_of(self, line: int) -> Optional[int]:
         """The first slot of a line, or `None` if the listing has no such line."""
         return self.lines[line - 1].slot if 1 <= line <= len(self.lines) else None

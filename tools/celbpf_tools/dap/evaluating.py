@@ -5,6 +5,7 @@ import re
 from typing import Any
 
 from ..asking.program import NotAnswered, Program
+from ..asking.refused import MEANINGS
 from ..asking.values import Values
 from .arguments import BadRequest
 from .child import Place, Refused
@@ -14,6 +15,16 @@ REGISTER = re.compile(r"r(?:10|[0-9])$")
 VALUE = re.compile(r"v (?:0|[1-9][0-9]*)$")
 SHOWS = re.compile(r"(?:m 0x[0-9a-f]{1,16} [1-9][0-9]{0,2}|[rflw])$")
 REFUSED = ("? what", "? range", "? memory")
+# what moves in a session of a terminal, and what the console takes
+MOVES = re.compile(r"(?:s|rs|c|rc|g|b|db|q|go|step|next|break|continue|help)(?: .*)?$")
+TAKES = "the console takes registers (r0), `v N`, `m 0xADDRESS LENGTH`, `r`, `f`, `l`, `w`, and expressions of CEL; the editor's buttons move"
+
+
+def meaning(refusal: str) -> str:
+    """Why an expression is refused, such as `K6 validation 0 W5 objct`, without the place of the policy that was made for it."""
+    cause, *more = refusal.split()[3:]
+    named = f": {more[0]}" if more and more[0] != "at" else ""
+    return f"{MEANINGS.get(cause, 'it is refused')}{named} ({cause})"
 
 
 class Evaluator:
@@ -53,7 +64,10 @@ class Evaluator:
         try:
             found = Values(self.program, self.scope).of(text, [])
         except NotAnswered as why:
-            raise BadRequest(f"{text}: celbpf: {why.line}") from why
+            if MOVES.match(text):
+                raise BadRequest(TAKES) from why
+            is_of_text = why.line.startswith("K6 ") and len(why.line.split()) > len(("K6", "validation", "0"))
+            raise BadRequest(f"{text}: {meaning(why.line) if is_of_text else why.line}") from why
         if found == "error":
             return self.view.plain(text, found, "error")
         try:

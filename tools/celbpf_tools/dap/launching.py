@@ -1,5 +1,6 @@
 """From the words of a launch to a session: files, the image, its listing, and the process."""
 
+import difflib
 import os
 import subprocess
 import tempfile
@@ -13,6 +14,7 @@ from ..asking.translating import Translating, gatekeeper_of
 from ..documents import Unreadable
 from ..entry import Stop, told
 from ..testing.answers import Asked
+from ..vapctl.refusals import words_of_refusal
 from .arguments import Arguments, BadRequest
 from .child import Child, Ended
 from .code import Code
@@ -21,6 +23,11 @@ from .parts import Parts, parts_of, texts_of
 # what a step of an editor goes by: a part of the policy, a sub-expression, or an instruction
 PART, PIECE, INSTRUCTION = "part", "expression", "instruction"
 DOCUMENTS = ("review", "namespace", "params")
+# the words of a launch, and those that clients add for themselves begin with two underscores or are of this list
+KEYS = (
+    "image", "policy", *DOCUMENTS, "listing", "program", "gatekeeper", "cwd", "noDebug", "stopOnEntry", "stepBy", "profile", "translated",
+)
+OF_CLIENTS = ("name", "type", "request", "preLaunchTask", "postDebugTask", "presentation", "internalConsoleOptions", "debugServer")
 IMAGE = "launched.img"
 
 
@@ -65,7 +72,13 @@ def named(given: Arguments, key: str) -> Optional[str]:
 
 def ordered(given: Arguments, own: Given) -> Order:
     """The order in the arguments of a launch; a relative path is one of the folder `cwd`."""
+    unknown = [key for key in given.found if key not in (*KEYS, *OF_CLIENTS) and not key.startswith("__")]
+    if unknown:
+        near = difflib.get_close_matches(unknown[0], KEYS, 1)
+        raise BadRequest(f"launch: {unknown[0]} is no key{f'; there is {near[0]}' if near else ''}")
     folder = named(given, "cwd") or ""
+    if folder and not os.path.isdir(os.path.expanduser(folder)):
+        raise BadRequest(f"cwd: {folder} is no folder")
 
     def path(key: str) -> Optional[str]:
         name = named(given, key)
@@ -177,7 +190,7 @@ def launched(order: Order) -> Launched:
         made.child.ask("f")
         return made
     except NotAnswered as why:
-        reason = f"celbpf: {why.line}"
+        reason = f"{order.title}: {words_of_refusal(why.line)}"
     except (BadRequest, Ended, Unreadable) as why:
         reason = str(why)
     except (Stop, OSError, subprocess.SubprocessError) as why:

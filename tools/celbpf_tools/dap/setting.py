@@ -25,6 +25,7 @@ class Wish:
     line: int = 0
     slot: int = -1
     name: str = ""
+    why: str = ""
 
 
 class Setting:
@@ -121,13 +122,19 @@ class Setting:
             has_parts = "the policy has no such part" if session.parts else "an image alone has no parts by name"
             return (slots, "") if slots else ((), f"{wish.name}: {has_parts}")
         if kind == INSTRUCTION:
-            has = session.code.has(wish.slot)
-            outside = f"slot {wish.slot} is outside the code, which has {session.code.slots}"
-            return ((wish.slot,), "") if has else ((), outside)
+            return self.slots_of_instruction(session, wish)
         if name:
             return (), NO_SOURCE
         slot = session.code.slot_of(wish.line)
         return ((slot,), "") if slot is not None else ((), f"the listing has {len(session.code.lines)} lines")
+
+    def slots_of_instruction(self, session: Session, wish: Wish) -> tuple[tuple[int, ...], str]:
+        """The first slot of an instruction: a wide load has a second, at which no run stops."""
+        if wish.why:
+            return (), wish.why
+        start = session.code.start_of(wish.slot)
+        outside = f"slot {wish.slot} is outside the code, which has {session.code.slots}"
+        return ((start,), "") if start is not None else ((), outside)
 
     def place_of(self, session: Session, slot: int) -> dict[str, Any]:
         """Where a slot is shown."""
@@ -153,10 +160,12 @@ class Setting:
 
     def instructions(self, given: Arguments) -> Optional[dict[str, Any]]:
         """Replaces the breakpoints on instructions."""
-        wishes = [
-            {"slot": number_of(one.needed_text("instructionReference"), "instructionReference") + one.number("offset", 0)}
-            for one in given.parts("breakpoints")
-        ]
+        wishes: list[dict[str, Any]] = []
+        for one in given.parts("breakpoints"):
+            try:
+                wishes.append({"slot": number_of(one.needed_text("instructionReference"), "instructionReference") + one.number("offset", 0)})
+            except BadRequest as why:
+                wishes.append({"why": str(why)})
         return self.asked((INSTRUCTION, ""), wishes)
 
     def functions(self, given: Arguments) -> Optional[dict[str, Any]]:

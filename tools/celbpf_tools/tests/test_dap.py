@@ -103,6 +103,8 @@ class Listing(unittest.TestCase):
         self.assertEqual([self.code.line_of(slot) for slot in range(-1, 6)], [None, 1, 2, 2, 3, 4, None])
         self.assertEqual([self.code.slot_of(line) for line in range(6)], [None, 0, 1, 3, 4, None])
         self.assertEqual((self.code.slots, self.code.constants), (5, 7))
+        # a run stops at the first slot of a wide load alone
+        self.assertEqual([self.code.start_of(slot) for slot in range(-1, 6)], [None, 0, 1, 1, 3, 4, None])
 
     def test_disassembly_is_as_long_as_asked(self) -> None:
         found = self.code.disassembled(3, -3, 6)
@@ -172,7 +174,8 @@ class Requests(Served):
                 self.assertEqual(self.kinds((name, given)), [f"not {name}"])
 
     def test_launches_that_are_refused(self) -> None:
-        for given in ({}, {"image": "a", "policy": "b"}, {"image": "/none"}, {"image": 3}, {"image": "a\0"}, {"image": "\ud800"}):
+        for given in ({}, {"image": "a", "policy": "b"}, {"image": "/none"}, {"image": 3}, {"image": "a\0"}, {"image": "\ud800"},
+                      {"image": "a", "cwd": "/none"}, {"image": "a", "reviw": "b"}):
             text = json.dumps({"seq": 1, "type": "request", "command": "launch", "arguments": given}).encode()
             found, stop = self.raw(framed(text) + framed(b'{"seq":2,"type":"request","command":"stackTrace"}'))
             self.assertEqual(([self.kind(one) for one in found], stop), (["not launch", "not stackTrace"], None))
@@ -204,6 +207,17 @@ class Requests(Served):
         first, second = found["breakpoints"]
         self.assertEqual((first["verified"], first["line"], first["instructionReference"]), (True, 3, "2"))
         self.assertEqual((second["verified"], second["message"]), (False, "the listing has 6 lines"))
+
+    def test_one_wrong_instruction_breakpoint_is_not_set(self) -> None:
+        wanted = [{"instructionReference": name} for name in ("2", "x", "6")]
+        found = self.body(("setInstructionBreakpoints", {"breakpoints": wanted}))["breakpoints"]
+        self.assertEqual([one["verified"] for one in found], [True, False, False])
+        self.assertEqual(found[1]["message"], "instructionReference: x is no address")
+
+    def test_what_the_console_does_not_take(self) -> None:
+        for text in ("help", "b 3", "s", "go 4"):
+            with self.subTest(text):
+                self.assertIn("the console takes registers", self.asked(("evaluate", {"expression": text}))[-1]["message"])
 
     def test_parts_of_an_image_alone(self) -> None:
         found = self.body(("setFunctionBreakpoints", {"breakpoints": [{"name": "validation 0"}]}))["breakpoints"][0]
