@@ -1,7 +1,6 @@
 -- The members that are read of an object, by their keys.
-use Rattle.value_table.proofs.Prelude.{◌≡◌, ℕ, ◌+◌, List, [], ◌∷◌, ◌++◌, length, Option, Some, None, option_map, Ordering, Less, Greater, refl, sym, ap, ap₂, ◌∙◌, subst, arith, length-append, append_assoc, append-nil, length-map, nat_cmp, slice_cmp, AllByRecursion, Value, Entries, no_entries, entry, keys_of, AreEntriesOrdered, IsOrdered, Ascend, saturated, value_in, entries_at, part_of, IsText, AreTexts, AreBelow, HasGrown, ExtendsBackings, values_at, entries_of, heap_values, Gains, Ok}
+use Rattle.value_table.proofs.Prelude.{◌≡◌, ℕ, ◌+◌, List, [], ◌∷◌, ◌++◌, length, Option, Some, None, option_map, Ordering, Less, Greater, refl, sym, ap, ap₂, ◌∙◌, subst, arith, length-append, append_assoc, append-nil, length-map, nat_cmp, slice_cmp, AllByRecursion, Value, Entries, no_entries, entry, keys_of, AreEntriesOrdered, IsOrdered, Ascend, saturated, value_in, entries_at, part_of, IsText, AreTexts, AreBelow, HasGrown, ExtendsBackings, values_at, entries_of, heap_values, Gains, Ok, Part}
 use Rattle.value_table.specs.declared.heap.Heap.{Heap}
-use Rattle.value_table.specs.declared.part.Part.{Part}
 use Rattle.std.specs.Prelude.{option_and_then}
 use Rattle.std.specs.declared.cmp.Ordering.TheVariants.{Equal}
 use Rattle.std.specs.Ordering.{match_ordering}

@@ -1,7 +1,8 @@
 -- Documents become values one after the other.
 use Rattle.value_table.proofs.Prelude.{◌≡◌, ℕ, false, List, [], ◌∷◌, ◌++◌, length, refl, sym, ap, ap₂, ◌∙◌, arith, length-append, append_assoc, append-nil, Result, Ok, Some, or_parts, map-append, AllocError, Value, Items, no_items, item, items_push, items_join, Entries, no_entries, entry, keys_of, values_of, AreItemsOrdered, AreEntriesOrdered, items_have_other, members_have_other, plain_value, plain_items, plain_entries, part_of, items_at, entries_at, AddsValue, IsText, AreTexts, AreBelow, ExtendsBackings, texts_of, values_at, entries_of, Part, Backings, HasGrown, IsValueAt, Enters, heap_values, Gains, Heap}
 use Rattle.serde_json.specs.Data as json
-use Rattle.value_table.proofs.Growth.{value_stable, mapped_stable, items_stable, text_kept, texts_kept}
+use Rattle.value_backings.proofs.Kept.{text_kept}
+use Rattle.value_table.proofs.Growth.{value_stable, mapped_stable, items_stable, texts_kept}
 use Rattle.value_table.proofs.Listed.{below_le, below_append, items_more}
 use Rattle.value_table.proofs.Heads.{entries_built}
 use Rattle.value_table.proofs.Named.{place_added}

@@ -1,15 +1,11 @@
 -- Values are unchanged when backings grow and when values are added.
-use Rattle.value_table.proofs.Prelude.{◌≡◌, ℕ, zero, suc, ◌+◌, ◌<◌, ◌≤◌, List, [], ◌∷◌, ◌++◌, length, get_or, take, drop, map, refl, sym, ap, ap₂, ◌∙◌, arith, length-append, append_assoc, append-nil, subst, zero-add, length-drop, Some, slice_get, slice_range, take-append-le, drop-append-le, get_or_append_left, get_or-append_seam, Value, part_of, value_in, items_at, entries_at, refs_at, keys_at, meaning, grown, IsText, AreTexts, AreBelow, IsRange, AreKeys, IsContent, IsCell, AreCells, ExtendsBackings, CellFound, Part, Content, Cell, Backings}
+use Rattle.value_table.proofs.Prelude.{◌≡◌, ℕ, zero, suc, ◌+◌, ◌<◌, List, [], ◌∷◌, ◌++◌, length, get_or, map, refl, sym, ap, ap₂, ◌∙◌, arith, length-append, append_assoc, append-nil, subst, zero-add, Some, slice_get, take-append-le, get_or_append_left, get_or-append_seam, Value, value_in, items_at, entries_at, refs_at, keys_at, meaning, grown, AreTexts, AreBelow, IsRange, AreKeys, IsContent, IsCell, AreCells, ExtendsBackings, CellFound, Part, Content, Cell, Backings}
 use Rattle.value_store.specs.Value as kind
+use Rattle.shared_lists.proofs.Kept.{range_kept}
+use Rattle.value_backings.proofs.Kept.{text_kept}
 use Rattle.value_table.specs.declared.content.Content.TheVariants as cell
 
 -- ---- parts of lists that have grown
-
-pub range_kept : {A : Type 0} (xs rest : List A) (a b : ℕ) → a ≤ b → b ≤ length xs → slice_range (xs ++ rest) a b ≡ slice_range xs a b
-range_kept xs rest a b le lt = grind (arith, take, drop-append-le, take-append-le, drop, length-drop)
-
-pub text_kept : (bytes rest : List ℕ) (p : Part) → IsText bytes p → (part_of (bytes ++ rest) p ≡ part_of bytes p) × IsText (bytes ++ rest) p
-text_kept bytes rest p h = grind (arith, range_kept, length-append)
 
 pub texts_kept : (bytes rest : List ℕ) (ks : List Part) → AreTexts bytes ks → AreTexts (bytes ++ rest) ks
 texts_kept bytes rest [] h = tt

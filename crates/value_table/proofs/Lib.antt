@@ -2,7 +2,6 @@
 
 pub mod TextLengths
 pub mod Growth
-pub mod Backed
 pub mod Chunked
 pub mod Adding
 pub mod Listed
@@ -23,4 +22,3 @@ pub mod Lookups
 pub mod Mapped
 pub mod Printing
 pub mod Prelude
-mod Pooled

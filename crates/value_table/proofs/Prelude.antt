@@ -3,18 +3,18 @@ pub use Rattle.std.proofs.Common.{◌≢◌, Bool, Decides, Err, Global, IfSome,
 pub use Rattle.std.proofs.Common.{Vec, ℕ, [], add-one, ap, append-nil, append_assoc, ap₂, arith, bytes_eq, cond}
 pub use Rattle.std.proofs.Common.{decimal, drop, drop-cons, false, get_or, if◌then◌else◌, inl, inr, is_some, length}
 pub use Rattle.std.proofs.Common.{length-append, length-drop, length-take, map, max, min, nat_le, nat_lt, not}
-pub use Rattle.std.proofs.Common.{option_map, refl, rules, set, slice_get, slice_index_or, slice_range, slice_set}
+pub use Rattle.std.proofs.Common.{option_map, refl, rules, set, slice_get, slice_index_or, slice_range}
 pub use Rattle.std.proofs.Common.{string_bytes, subst, suc, sym, take, true, true≢false, unwrap_or, vec_capacity}
-pub use Rattle.std.proofs.Common.{vec_len, w64, zero, zero-add, ◌%◌, ◌*◌, ◌++◌, ◌+◌, ◌-◌, ◌/◌, ◌<◌, ◌^◌, ◌||◌, ◌∙◌}
+pub use Rattle.std.proofs.Common.{w64, zero, zero-add, ◌%◌, ◌*◌, ◌++◌, ◌+◌, ◌-◌, ◌/◌, ◌<◌, ◌^◌, ◌||◌, ◌∙◌}
 pub use Rattle.std.proofs.Common.{◌∷◌, ◌≡◌, ◌≤◌, ◌⊎◌}
-pub use Rattle.std.proofs.Math.Seq.{drop-append_seam, drop-nil, get_or-append_seam}
+pub use Rattle.std.proofs.Math.Seq.{drop-nil, get_or-append_seam}
 pub use Rattle.std.proofs.lemmas.Bool.{cases_eq, cases_lt, cond-false, cond-true, false_from_ne_true, ltb-false}
 pub use Rattle.std.proofs.lemmas.Bool.{ltb-true, or_parts}
 pub use Rattle.std.proofs.lemmas.Bool.Decides.{nat_tests}
 pub use Rattle.std.proofs.lemmas.Cmp.{nat_list_cmp_total}
 pub use Rattle.std.proofs.lemmas.Fmt.{decimal_digit, decimal_step, length-decimal-le}
 pub use Rattle.std.proofs.lemmas.Int.{to_z-of_z}
-pub use Rattle.std.proofs.lemmas.List.{drop-append-le, drop_all, get_or-append_right, get_or-drop, get_or-map}
+pub use Rattle.std.proofs.lemmas.List.{drop_all, get_or-append_right, get_or-map}
 pub use Rattle.std.proofs.lemmas.List.{get_or-set_other, get_or-set_same, get_or-take, get_or_append_left}
 pub use Rattle.std.proofs.lemmas.List.{get_or_default, length-map, length-set, length-take-le, map-append}
 pub use Rattle.std.proofs.lemmas.List.{nil_from_length, take-append-le, take_all, take_more}
@@ -24,7 +24,6 @@ pub use Rattle.std.proofs.lemmas.Option.{get_or_from_slice_get, same_Some, slice
 pub use Rattle.std.proofs.lemmas.Option.{slice_get_within, unwrap_or-slice_get}
 pub use Rattle.std.proofs.lemmas.Result.{IfOk-weaker}
 pub use Rattle.std.proofs.lemmas.Slice.Eq.{bytes_eq-Decides}
-pub use Rattle.std.proofs.lemmas.Str.{IsUtf8-append}
 pub use Rattle.std.specs.Array.Iter.{array_into_iter_items}
 pub use Rattle.std.specs.BTreeMap.{get_by_text}
 pub use Rattle.std.specs.Bool.{one_answer}
@@ -38,7 +37,7 @@ pub use Rattle.std.specs.declared.alloc.AllocError.{AllocError}
 pub use Rattle.std.specs.declared.cmp.Ordering.{Ordering}
 pub use Rattle.std.specs.declared.cmp.Ordering.TheVariants.{Greater, Less}
 unfoldable pub use Rattle.std.specs.List.Sorted.{IsStrictlySortedBy}
-pub use Rattle.json.specs.Print.{escape, print, quoted}
+pub use Rattle.json.specs.Print.{print, quoted}
 pub use Rattle.json.specs.Token.{Token}
 unfoldable pub use Rattle.json.specs.Print.{print_from}
 pub use Rattle.serde_json.specs.View.{items_view, members_view, view}
@@ -86,9 +85,9 @@ pub use Rattle.value_table.specs.Search.{IsKeyAt, IsInsertionPlace, place_among}
 pub use Rattle.value_table.specs.Start.{IsWelcome, StartsWithValues}
 pub use Rattle.value_table.specs.Tokens.{closing, entries_tokens, head_keys, items_tokens, name_tokens, opening}
 pub use Rattle.value_table.specs.Tokens.{row_tokens, value_tokens}
-pub use Rattle.value_table.specs.declared.backings.Backings.{Backings}
+pub use Rattle.value_backings.specs.declared.backings.Backings.{Backings}
 pub use Rattle.value_table.specs.declared.cell.Cell.{Cell}
 pub use Rattle.value_table.specs.declared.content.Content.{Content}
 pub use Rattle.value_table.specs.declared.heap.Heap.{Heap}
 pub use Rattle.value_table.specs.declared.measure.Measure.{Measure}
-pub use Rattle.value_table.specs.declared.part.Part.{Part}
+pub use Rattle.value_backings.specs.declared.part.Part.{Part}

@@ -4,7 +4,7 @@ use Rattle.value_store.specs.Value.{Value}
 use Rattle.value_table.specs.Meaning.{meaning}
 use Rattle.value_table.specs.Heaps.{IsContent, AreSame}
 use Rattle.value_table.specs.declared.cell.Cell.{Cell}
-use Rattle.value_table.specs.declared.backings.Backings.{Backings}
+use Rattle.value_backings.specs.declared.backings.Backings.{Backings}
 
 -- the parts of each cell are at earlier places
 abbrev pub AreContents : Backings → List Cell → Type 0

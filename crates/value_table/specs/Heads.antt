@@ -4,10 +4,10 @@ use Rattle.value_store.specs.Value as kind
 use Rattle.value_store.specs.Value.{Value, Entries, no_entries, entry, items_of}
 use Rattle.value_table.specs.Meaning.{part_of, value_in, refs_at, keys_at}
 use Rattle.value_table.specs.Heaps.{IsText, AreKeys}
-use Rattle.value_table.specs.declared.part.Part.{Part}
+use Rattle.value_backings.specs.declared.part.Part.{Part}
 use Rattle.value_table.specs.declared.content.Content.{Content}
 use Rattle.value_table.specs.declared.content.Content.TheVariants as cell
-use Rattle.value_table.specs.declared.backings.Backings.{Backings}
+use Rattle.value_backings.specs.declared.backings.Backings.{Backings}
 
 -- a value without parts, the number of items of a list, or the keys of a map
 pub data Head : Type 0 where

@@ -1,24 +1,17 @@
 -- Cells whose parts are at earlier places.
 use Rattle.std.specs.Prelude.{◌≡◌, ◌≤◌, ◌<◌, ℕ, ◌+◌, List, [], ◌∷◌, ◌++◌, length, slice_index_or, slice_get, Result, Ok, Err, ⊤}
-use Rattle.std.specs.Str.{IsUtf8}
 use Rattle.std.specs.declared.alloc.AllocError.{AllocError}
-use Rattle.json.specs.Print.{quoted}
 use Rattle.value_store.specs.Value.{Value}
 use Rattle.value_store.specs.Size.{depth_of}
 use Rattle.value_store.specs.Keys.{IsOrdered}
-use Rattle.value_store.specs.Plain.{saturated}
-use Rattle.value_table.specs.Meaning.{part_of, value_in, refs_at, keys_at, meaning}
+use Rattle.value_table.specs.Meaning.{value_in, refs_at, keys_at, meaning}
 use Rattle.value_table.specs.Lengths.{json_length}
-use Rattle.value_table.specs.declared.part.Part.{Part}
+pub use Rattle.value_backings.specs.Stored.{IsText, ExtendsBackings, HoldsItems}
+use Rattle.value_backings.specs.declared.part.Part.{Part}
 use Rattle.value_table.specs.declared.content.Content.{Content}
 use Rattle.value_table.specs.declared.content.Content.TheVariants as cell
 use Rattle.value_table.specs.declared.cell.Cell.{Cell}
-use Rattle.value_table.specs.declared.backings.Backings.{Backings}
-
--- the part is a range of the bytes, a text, and has the right length of its JSON
-abbrev pub IsText : List ℕ → Part → Type 0
-IsText bytes p = (p.from ≤ p.to) × (p.to ≤ length bytes) × IsUtf8 (part_of bytes p)
-    × (p.json ≡ saturated (length (quoted (part_of bytes p))))
+use Rattle.value_backings.specs.declared.backings.Backings.{Backings}
 
 abbrev pub AreTexts : List ℕ → List Part → Type 0
 AreTexts bytes [] = ⊤
@@ -76,19 +69,6 @@ pub record AreSame (vs : List Value) (same : List ℕ) : Type 0 where
   pub long : length same ≤ length vs
   pub below : (i d : ℕ) → i < length same → slice_index_or same i d ≤ i
   pub equal : (i d : ℕ) → i < length same → slice_get vs (slice_index_or same i d) ≡ slice_get vs i
-
--- the backings have grown: each part of the old ones is unchanged
-pub record ExtendsBackings (old new : Backings) : Type 0 where
-  pub bytes : (rest : List ℕ) × (new.bytes ≡ old.bytes ++ rest)
-  pub keys : (rest : List Part) × (new.keys ≡ old.keys ++ rest)
-  pub lists : length old.lists ≤ length new.lists
-  pub items : (b : ℕ) → b < length old.lists → (rest : List ℕ) × (slice_index_or new.lists b [] ≡ slice_index_or old.lists b [] ++ rest)
-
--- backing b has exactly these n items
-pub record HoldsItems (lists : List (List ℕ)) (b n : ℕ) (rs : List ℕ) : Type 0 where
-  pub inside : b < length lists
-  pub long : length (slice_index_or lists b []) ≡ n
-  pub items : refs_at lists b n ≡ rs
 
 -- one more value, and the place of its cell; or an allocation failed, and the values are unchanged
 abbrev pub AddsValue : List Value → Value → Result ℕ AllocError → List Value → Type 0

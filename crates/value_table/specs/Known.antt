@@ -5,7 +5,7 @@ use Rattle.value_table.specs.Meaning.{value_in}
 use Rattle.value_table.specs.Lengths.{json_length}
 use Rattle.value_table.specs.Equality.{AreMeanings}
 use Rattle.value_table.specs.declared.cell.Cell.{Cell}
-use Rattle.value_table.specs.declared.backings.Backings.{Backings}
+use Rattle.value_backings.specs.declared.backings.Backings.{Backings}
 
 -- the values are the meanings of the cells, which have the lengths of their JSON texts
 pub record AreKnown (bs : Backings) (vs : List Value) (cs : List Cell) : Type 0 where

@@ -1,6 +1,5 @@
 -- Definitions for the table of values: its cells, their values, and how they are read.
 
-pub mod Pool
 pub mod Meaning
 pub mod Measures
 pub mod Lengths

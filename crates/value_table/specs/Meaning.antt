@@ -1,16 +1,14 @@
 -- The values that cells represent. A cell refers to parts of backings, which may have grown since it was added.
-use Rattle.std.specs.Prelude.{ℕ, ◌+◌, List, [], ◌∷◌, ◌++◌, take, slice_range, slice_index_or, Option, Some, None, true, false, option_and_then, slice_get}
+use Rattle.std.specs.Prelude.{ℕ, List, [], ◌∷◌, ◌++◌, slice_index_or, Option, Some, None, true, false, option_and_then, slice_get}
 use Rattle.value_store.specs.Value as kind
 use Rattle.value_store.specs.Value.{Value, Items, no_items, item, Entries, no_entries, entry}
 use Rattle.value_store.specs.Calls.{entries_part}
-use Rattle.value_table.specs.declared.part.Part.{Part}
+pub use Rattle.value_backings.specs.Ranges.{part_of, refs_at, keys_at}
+use Rattle.value_backings.specs.declared.part.Part.{Part}
 use Rattle.value_table.specs.declared.content.Content.{Content}
 use Rattle.value_table.specs.declared.content.Content.TheVariants as cell
 use Rattle.value_table.specs.declared.cell.Cell.{Cell}
-use Rattle.value_table.specs.declared.backings.Backings.{Backings}
-
-abbrev pub part_of : List ℕ → Part → List ℕ
-part_of bytes p = slice_range bytes p.from p.to
+use Rattle.value_backings.specs.declared.backings.Backings.{Backings}
 
 -- the value at a place
 abbrev pub value_in : List Value → ℕ → Value
@@ -26,14 +24,6 @@ abbrev pub entries_at : List ℕ → List Value → List Part → List ℕ → E
 entries_at bytes vs [] rs = no_entries
 entries_at bytes vs (k ∷ ks) [] = no_entries
 entries_at bytes vs (k ∷ ks) (r ∷ rs) = entry (part_of bytes k) (value_in vs r) (entries_at bytes vs ks rs)
-
--- the first n items of a backing
-abbrev pub refs_at : List (List ℕ) → ℕ → ℕ → List ℕ
-refs_at lists b n = take n (slice_index_or lists b [])
-
--- n adjacent keys
-abbrev pub keys_at : List Part → ℕ → ℕ → List Part
-keys_at keys k n = slice_range keys k (k + n)
 
 -- the value that a cell represents, given the values before it
 abbrev pub meaning : Backings → List Value → Content → Value

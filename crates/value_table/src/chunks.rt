@@ -3,7 +3,7 @@
 ghost use Rattle.std.specs.Prelude.{◌≡◌, ◌<◌, ◌+◌, ◌^◌, [], ◌∷◌, ◌++◌, length, vec_len, vec_capacity, slice_get, Some, IfOk, OnOk, OnErr};
 ghost use Rattle.value_table.specs.Chunks.{joined, AreChunks};
 
-use crate::backing::Backing;
+use shared_lists::Backing;
 use std::alloc::{AllocError, Global};
 use std::marker::Model;
 use std::rc::Rc;

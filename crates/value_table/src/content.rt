@@ -1,6 +1,6 @@
 //! The content of a cell.
 
-use crate::part::Part;
+use value_backings::Part;
 
 /// A simple value, or the location of a value's parts.
 #[derive(Clone, Copy, Debug, PartialEq, Eq)]

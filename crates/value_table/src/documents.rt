@@ -12,8 +12,8 @@ ghost use Rattle.value_table.specs.Heap.{heap_values, IsHeap};
 ghost use Rattle.value_table.specs.Heaps.{AreBelow};
 
 use crate::heap::Heap;
-use crate::small_number::small;
 use serde_json::{Map, Value};
+use shared_lists::small;
 use std::alloc::AllocError;
 
 /// Adds the value of a document whose numbers are 64-bit signed integers. The document is dropped

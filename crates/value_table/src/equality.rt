@@ -21,7 +21,7 @@ use crate::equality::by_cells::equal_by_cells;
 use crate::equality::walk::first;
 pub(crate) use crate::equality::walk::parts_of;
 use crate::heap::Heap;
-use crate::text::text;
+use value_backings::text;
 
 // No comparison takes memory: capacity for the words of all cells is reserved.
 impl Heap {

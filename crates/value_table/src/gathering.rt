@@ -13,9 +13,9 @@ use crate::content::Content;
 use crate::heap::{Heap, room_for_cell};
 use crate::lengths::{pushed_length, put_length};
 use crate::measure::Measure;
-use crate::part::Part;
-use crate::small_number::small;
+use shared_lists::small;
 use std::alloc::AllocError;
+use value_backings::Part;
 
 // The whole gets one cell, and each part is measured once.
 impl Heap {

@@ -7,13 +7,13 @@ ghost use Rattle.value_table.specs.Meaning.{meaning};
 ghost use Rattle.value_table.specs.Heaps.{IsCell, CellFound};
 ghost use Rattle.value_table.specs.Lending.{LendsCells};
 
-use crate::backings::Backings;
 use crate::cell::Cell;
 use crate::chunks::{Chunks, SPARE};
 use crate::content::Content;
 use crate::lengths::int_length;
 use crate::sequence::Sequence;
 use std::alloc::{AllocError, Global};
+use value_backings::Backings;
 
 /// Values, each identified by the place of its cell. A value never changes.
 #[derive(Drop)]

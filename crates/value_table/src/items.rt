@@ -10,7 +10,7 @@ use crate::cell::Cell;
 use crate::content::Content;
 use crate::heap::{Heap, room_for_cell};
 use crate::lengths::{joined_length, pushed_length};
-use crate::small_number::small;
+use shared_lists::small;
 use std::alloc::AllocError;
 
 impl Heap {

@@ -2,11 +2,8 @@
 
 ghost use Rattle.std.specs.Prelude.{◌≡◌, ◌≤◌, ◌+◌, ◌-◌, length, decimal};
 ghost use Rattle.std.specs.Fmt.{signed_decimal};
-ghost use Rattle.json.specs.Print.{quoted, escape_byte};
 ghost use Rattle.value_store.specs.Plain.{saturated};
 ghost use Rattle.value_table.specs.Lengths.{commas};
-
-use crate::plain::is_plain;
 
 // The number of commas between `count` items and `more` items that follow them.
 fn commas(count: u64, more: u64) -> u64
@@ -63,44 +60,4 @@ fn digits(n: u64) -> u64
         count = count.saturating_add(1);
     }
     count
-}
-
-/// The length of a text in JSON, with its quotes and escapes.
-pub(crate) fn quoted_length(text: &[u8]) -> u64
-    ensures { result ≡ saturated (length (quoted text.now)) }
-{
-    if is_plain(text) {
-        return 2u64.saturating_add(text.len() as u64);
-    }
-    counted_length(text)
-}
-
-// `quoted_length`, byte by byte.
-fn counted_length(text: &[u8]) -> u64
-    ensures { result ≡ saturated (length (quoted text.now)) }
-{
-    let mut length = 2u64;
-    for byte in text {
-        length = length.saturating_add(escaped_length(*byte));
-    }
-    length
-}
-
-// The length of each byte in a JSON text. A table is faster than a branch for each byte.
-static ESCAPED: [u8; 256] = [
-    6, 6, 6, 6, 6, 6, 6, 6, 2, 2, 2, 6, 2, 2, 6, 6, 6, 6, 6, 6, 6, 6, 6, 6, 6, 6, 6, 6, 6, 6, 6, 6,
-    1, 1, 2, 1, 1, 1, 1, 1, 1, 1, 1, 1, 1, 1, 1, 1, 1, 1, 1, 1, 1, 1, 1, 1, 1, 1, 1, 1, 1, 1, 1, 1,
-    1, 1, 1, 1, 1, 1, 1, 1, 1, 1, 1, 1, 1, 1, 1, 1, 1, 1, 1, 1, 1, 1, 1, 1, 1, 1, 1, 1, 2, 1, 1, 1,
-    1, 1, 1, 1, 1, 1, 1, 1, 1, 1, 1, 1, 1, 1, 1, 1, 1, 1, 1, 1, 1, 1, 1, 1, 1, 1, 1, 1, 1, 1, 1, 1,
-    1, 1, 1, 1, 1, 1, 1, 1, 1, 1, 1, 1, 1, 1, 1, 1, 1, 1, 1, 1, 1, 1, 1, 1, 1, 1, 1, 1, 1, 1, 1, 1,
-    1, 1, 1, 1, 1, 1, 1, 1, 1, 1, 1, 1, 1, 1, 1, 1, 1, 1, 1, 1, 1, 1, 1, 1, 1, 1, 1, 1, 1, 1, 1, 1,
-    1, 1, 1, 1, 1, 1, 1, 1, 1, 1, 1, 1, 1, 1, 1, 1, 1, 1, 1, 1, 1, 1, 1, 1, 1, 1, 1, 1, 1, 1, 1, 1,
-    1, 1, 1, 1, 1, 1, 1, 1, 1, 1, 1, 1, 1, 1, 1, 1, 1, 1, 1, 1, 1, 1, 1, 1, 1, 1, 1, 1, 1, 1, 1, 1,
-];
-
-#[inline(always)]
-fn escaped_length(byte: u8) -> u64
-    ensures { result ≡ length (escape_byte byte) }
-{
-    ESCAPED[byte as usize] as u64
 }

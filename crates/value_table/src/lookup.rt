@@ -12,9 +12,8 @@ ghost use Rattle.value_table.specs.Search.{place_among};
 
 use crate::content::Content;
 use crate::heap::Heap;
-use crate::part::Part;
 use crate::search::search;
-use crate::text::keys;
+use value_backings::{Part, keys};
 
 impl Heap {
     /// The place of a key in a map, if the map has it (binary search).

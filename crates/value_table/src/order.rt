@@ -7,8 +7,8 @@ ghost use Rattle.value_table.specs.Heap.{heap_values, IsHeap};
 
 use crate::content::Content;
 use crate::heap::Heap;
-use crate::text::text;
 use text_kernels::first_difference;
+use value_backings::text;
 
 impl Heap {
     /// Whether the first of two ints, texts or bools is less than the second.

@@ -5,9 +5,8 @@ ghost use Rattle.value_table.specs.Heaps.{AreTexts};
 ghost use Rattle.value_table.specs.Heads.{texts_of};
 ghost use Rattle.value_table.specs.Search.{SearchAnswer};
 
-use crate::part::Part;
-use crate::text::text;
 use std::cmp::Ordering;
+use value_backings::{Part, text};
 
 /// The place of a key among the texts of the parts, or the place where it belongs.
 pub(crate) fn search(bytes: &[u8], keys: &[Part], key: &[u8]) -> Result<usize, usize>

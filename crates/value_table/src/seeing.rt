@@ -12,9 +12,8 @@ ghost use Rattle.value_table.specs.Heap.{heap_values, IsHeap};
 use crate::content::Content;
 use crate::equality::parts_of;
 use crate::heap::Heap;
-use crate::part::Part;
-use crate::text::{keys, text};
 use std::str::from_utf8_unchecked;
+use value_backings::{Part, keys, text};
 use value_store::Shape;
 
 impl Heap {

@@ -7,13 +7,13 @@ ghost use Rattle.value_table.specs.Meaning.{part_of, value_in};
 ghost use Rattle.value_table.specs.Heaps.{ExtendsBackings, IsCell, IsText};
 ghost use Rattle.value_table.specs.Heap.{heap_values, IsHeap, Gains};
 ghost use Rattle.value_table.specs.declared.content.Content.TheVariants as cell;
-ghost use Rattle.value_table.specs.declared.backings.Backings.{Backings};
+ghost use Rattle.value_backings.specs.declared.backings.Backings.{Backings};
 
 use crate::cell::Cell;
 use crate::content::Content;
 use crate::heap::{Heap, room_for_cell};
-use crate::part::Part;
 use std::alloc::AllocError;
+use value_backings::Part;
 
 impl Heap {
     /// Adds a text.

@@ -11,17 +11,15 @@ ghost use Rattle.value_table.specs.Equality.{AreContents, AreMeanings};
 ghost use Rattle.value_table.specs.Tokens.{value_tokens, opening, closing, head_keys, name_tokens};
 ghost use Rattle.value_table.specs.Heaps.{AreTexts};
 
-use crate::backings::Backings;
 use crate::cell::Cell;
 use crate::content::Content;
 use crate::equality::parts_of;
 use crate::heap::Heap;
-use crate::part::Part;
 use crate::sequence::Sequence;
-use crate::text::{keys, text};
 use json::Writer;
 use std::alloc::{AllocError, Global};
 use std::str::from_utf8_unchecked;
+use value_backings::{Backings, Part, keys, text};
 
 impl Heap {
     /// The value at a place as JSON. The memory is allocated at once, before the first byte is

@@ -5,10 +5,8 @@ ghost use Rattle.value_table.specs.Meaning.{part_of};
 ghost use Rattle.value_table.specs.Heaps.{IsText, AreTexts};
 ghost use Rattle.value_table.specs.Heads.{head, texts_of, IsReadable};
 
-use crate::backings::Backings;
 use crate::content::Content;
-use crate::part::Part;
-use crate::text::{keys, text};
+use value_backings::{Backings, Part, keys, text};
 
 /// Whether two cells are of one kind and have the same simple value, number of items, or keys.
 pub(crate) fn alike(backings: &Backings, left: Content, right: Content) -> bool

@@ -9,11 +9,11 @@ ghost use Rattle.value_table.specs.Heaps.{AreBelow, AreSame};
 ghost use Rattle.value_table.specs.Equality.{AreContents};
 ghost use Rattle.value_table.specs.Known.{AreKnown};
 
-use crate::backings::Backings;
 use crate::cell::Cell;
 use crate::equality::by_cells::equal_by_cells;
 use crate::equality::walk;
 use crate::sequence::Sequence;
+use value_backings::Backings;
 
 /// Whether one of the cells at `places` has a value equal to that of the cell at `x`.
 #[tactic(auto, using(crate::proofs::Walks::below_here))]

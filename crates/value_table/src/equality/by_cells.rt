@@ -8,10 +8,10 @@ ghost use Rattle.value_table.specs.Equality.{AreContents};
 ghost use Rattle.value_table.specs.Known.{AreKnown};
 ghost use Rattle.value_table.specs.Heads.{IsReadable};
 
-use crate::backings::Backings;
 use crate::cell::Cell;
 use crate::equality::alike::alike;
 use crate::equality::walk::parts_of;
+use value_backings::Backings;
 
 /// Whether two values are equal, if their cells tell it: their JSON texts differ in length, or the left one has no
 /// parts.

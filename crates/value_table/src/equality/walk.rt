@@ -7,12 +7,12 @@ ghost use Rattle.value_table.specs.Heads.{parts};
 ghost use Rattle.value_table.specs.Meaning.{refs_at};
 ghost use Rattle.value_table.specs.Equality.{AreContents, AreMeanings, Compares};
 
-use crate::backings::Backings;
 use crate::cell::Cell;
 use crate::content::Content;
 use crate::equality::alike::alike;
 use crate::equality::classes::{representative, unite};
 use crate::sequence::Sequence;
+use value_backings::Backings;
 
 /// Whether the values of two cells are equal. Each equal pair is remembered, so that values with
 /// shared parts take about as many steps as they have cells. The recursion is as deep as the values.
