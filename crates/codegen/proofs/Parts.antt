@@ -1,5 +1,5 @@
 -- The code of each construct, given that the code of its parts gives their values within their budgets.
-use Rattle.codegen.proofs.Prelude.{◌≡◌, ℕ, ◌+◌, ◌-◌, ◌*◌, ◌<◌, ◌≤◌, false, List, ◌++◌, Option, arith, Bool, true, ◌||◌, [], ◌∷◌, length, Some, None, refl, ℤ, Insn, Register, is_frame_pointer, result_size, items_size, size_of as value_size, ValueOrError, value, null, Value, boolean, int, text, Items, no_items, item, list_of, Truth, Yes, No, chosen, truth, ternary_of, and_of, not_of, or_of, ComputesPart, Ready, TextsStand, nestings, names, Cost, ◌and◌, node, nothing, spent_by, literal_cost, name_or_text, kept, kept_size, operand_code, operands_code, absorbing_code, ternary_code, false_ref, true_ref, Context, Evaluates, RunContext, AbsorbingGives, text_length, HasText, AreApart, Combines, Converts, IsLeafOf, size, SimpleOperand, logic_gives, one_gives, two_gives, gives_within, is_utf8-from_IsUtf8, IsWellFormedLiteral, R1, R2, R6, R7, sum_of, difference_of, negation_of, product_of, quotient_of, remainder_of, Core, Cores, CoreEntries, more_cores, no_cores, more_core_entries, no_core_entries, name_value, Function, Size, String, Dyn, TextTest, function_of, string_of, text_test_of, literal_of, list_literal, map_literal, field_of, has_of, index_of, deepest, need, deepest_of, entries_deepest, entries_need, needs, joined_length, Variable, leaf_gives, leaves_give, selection_gives, code_of, function_code, leaf_of, test_code, texts_of, kept_or, binary_tail, entries_code, items_code, texts_of_each, texts_of_entries, address_of, IsAccepted, AreAccepted, AreEntriesAccepted, BinaryOperator, UnaryOperator, equal_of, greater_equal_of, greater_of, less_equal_of, less_of, member_of, unequal_of, binary_of, unary_of, difference_gives, sum_gives, comparison_gives, products_give, negation_gives, Builds, EntriesGive, ItemsGive, list_gives, map_gives, looser, part_charge_per_unit, word_limit, frame_words, record_limit, part_steps_per_visit, kept_lists_give, kept_or_made, kept_place, list_front, list_value, slice_get, subst, sym, list_code}
+use Rattle.codegen.proofs.Prelude.{◌≡◌, ℕ, ◌+◌, ◌-◌, ◌*◌, ◌<◌, ◌≤◌, false, List, ◌++◌, Option, arith, Bool, true, ◌||◌, [], ◌∷◌, length, Some, None, refl, Insn, Register, is_frame_pointer, result_size, items_size, size_of as value_size, ValueOrError, value, null, Value, boolean, int, text, Items, no_items, item, list_of, Truth, Yes, No, chosen, truth, ternary_of, and_of, not_of, or_of, ComputesPart, Ready, TextsStand, nestings, names, Cost, ◌and◌, node, nothing, spent_by, literal_cost, name_or_text, kept, kept_size, operand_code, operands_code, and_code, or_code, ternary_code, Context, Evaluates, RunContext, AbsorbingGives, text_length, HasText, AreApart, Combines, Converts, IsLeafOf, size, SimpleOperand, logic_gives, one_gives, two_gives, gives_within, is_utf8-from_IsUtf8, IsWellFormedLiteral, R1, R2, R6, R7, sum_of, difference_of, negation_of, product_of, quotient_of, remainder_of, Core, Cores, CoreEntries, more_cores, no_cores, more_core_entries, no_core_entries, name_value, Function, Size, String, Dyn, TextTest, function_of, string_of, text_test_of, literal_of, list_literal, map_literal, field_of, has_of, index_of, deepest, need, deepest_of, entries_deepest, entries_need, needs, joined_length, Variable, leaf_gives, leaves_give, selection_gives, code_of, function_code, leaf_of, test_code, texts_of, kept_or, binary_tail, entries_code, items_code, texts_of_each, texts_of_entries, address_of, IsAccepted, AreAccepted, AreEntriesAccepted, BinaryOperator, UnaryOperator, equal_of, greater_equal_of, greater_of, less_equal_of, less_of, member_of, unequal_of, binary_of, unary_of, difference_gives, sum_gives, comparison_gives, products_give, negation_gives, Builds, EntriesGive, ItemsGive, list_gives, map_gives, looser, part_charge_per_unit, word_limit, frame_words, record_limit, part_steps_per_visit, kept_lists_give, kept_or_made, kept_place, list_front, list_value, slice_get, subst, sym, list_code}
 use Rattle.codegen.proofs.Subexpressions.{Subexpression, Valued, valued}
 use Rattle.expression_code.proofs.Sites.{Site, Budget, site_at, in_frame, budget, BuildsAt}
 use Rattle.cel_reader.specs.Tree as tree
@@ -37,9 +37,9 @@ module _ (s : RunContext) (c : Context) (depth k : ℕ) where
       gives_within s p (operands_code l left m right k r q ++ piece) c depth k z _ _ _ _ (omega arith) (omega arith) (two_gives s p k l left m right piece r q c depth x y z _ _ _ _ n w low apart leaf g leaf_right h t)
 
   -- two parts; the left one may decide
-  pub absorbing : (p : ℕ) (decides other : ℤ) (f : ValueOrError → ValueOrError → ValueOrError) (law : AbsorbingGives decides other f) (left right : Valued) → k < word_limit → ComputesPart s p left.code c depth k left.value left.cost → ComputesPart s (p + size left.code + 2) right.code c depth (k + 1) right.value right.cost → ComputesPart s p (absorbing_code decides other left.code right.code k) c depth k (f left.value right.value) (node (f left.value right.value) and left.cost and right.cost)
-  absorbing p decides other f law left right low g h =
-      gives_within s p (absorbing_code decides other left.code right.code k) c depth k (f left.value right.value) _ _ _ _ (omega arith) (omega arith) (law s p k left.code right.code c depth left.value right.value _ _ _ _ low g h)
+  pub absorbing : (p : ℕ) (operator : List Insn → List Insn → ℕ → List Insn) (f : ValueOrError → ValueOrError → ValueOrError) (law : AbsorbingGives operator f) (left right : Valued) → k < word_limit → ComputesPart s p left.code c depth k left.value left.cost → ComputesPart s (p + size left.code + 2) right.code c depth (k + 1) right.value right.cost → ComputesPart s p (operator left.code right.code k) c depth k (f left.value right.value) (node (f left.value right.value) and left.cost and right.cost)
+  absorbing p operator f law left right low g h =
+      gives_within s p (operator left.code right.code k) c depth k (f left.value right.value) _ _ _ _ (omega arith) (omega arith) (law s p k left.code right.code c depth left.value right.value _ _ _ _ low g h)
 
   chosen_spent : (t : Truth) (first one_side other : Cost) (x : ℕ) → (part_charge_per_unit * spent_by first - 8) + chosen t (part_charge_per_unit * spent_by one_side - 8) (part_charge_per_unit * spent_by other - 8) 0 ≤ part_charge_per_unit * (8 * (1 + first.visits + (chosen t one_side other nothing).visits) + (x + first.sizes + (chosen t one_side other nothing).sizes)) - 8
   chosen_spent t first one_side other x = grind arith
@@ -238,9 +238,9 @@ module _ (s : RunContext) (scope : List Variable) (rs : List (List ℕ × ℕ)) 
     pub binary_part : (o : BinaryOperator) → Part s scope rs texts depth c k (core.binary o a b) (binary_of o x y) (node (binary_of o x y) and t and u)
     unfolding code_of binary_tail
     binary_part op.Or ready p =
-        let both = sides op.Or (or_of x y) ready in absorbing s c depth k p true_ref false_ref or_of logic_gives.or (valued (code a k p) x t) (valued (right_code p) y u) both.low (both.left p) (grind (arith, both.right (p + (size (code a k p) + 2))))
+        let both = sides op.Or (or_of x y) ready in absorbing s c depth k p or_code or_of logic_gives.or (valued (code a k p) x t) (valued (right_code p) y u) both.low (both.left p) (grind (arith, both.right (p + (size (code a k p) + 2))))
     binary_part op.And ready p =
-        let both = sides op.And (and_of x y) ready in absorbing s c depth k p false_ref true_ref and_of logic_gives.and (valued (code a k p) x t) (valued (right_code p) y u) both.low (both.left p) (grind (arith, both.right (p + (size (code a k p) + 2))))
+        let both = sides op.And (and_of x y) ready in absorbing s c depth k p and_code and_of logic_gives.and (valued (code a k p) x t) (valued (right_code p) y u) both.low (both.left p) (grind (arith, both.right (p + (size (code a k p) + 2))))
     binary_part op.Add ready p = let short = joined_within x y in by_tail (binary_tail op.Add) R6 R7 (sum_of x y) 20 (5 + joined_length (joined (Some x) (Some y))) kept_two (omega arith) (omega arith) (sides op.Add (sum_of x y) ready) p (λ q low. sum_gives s q k c depth x y low)
     binary_part op.Less ready p =
         by_tail (binary_tail op.Less) R1 R2 (less_of x y) 1 1 first_two (omega arith) (omega arith) (sides op.Less (less_of x y) ready) p (λ q low. comparison_gives.less s q k c depth x y low)

@@ -105,7 +105,7 @@ pub use Rattle.expression_code.specs.Code.Calls.{kept_size, operand_code, operan
 pub use Rattle.expression_code.specs.Code.Folds.{macro_code, map_where_code, map_where_turn}
 pub use Rattle.expression_code.specs.Code.KeptLists.{clear, clear_code, kept_list_code}
 pub use Rattle.expression_code.specs.Code.Leaves.{leaf_code}
-pub use Rattle.expression_code.specs.Code.Logic.{absorbing_code, false_ref, not_tail, ternary_code, true_ref}
+pub use Rattle.expression_code.specs.Code.Logic.{absorbing_code, and_code, false_ref, not_tail, or_code, ternary_code, true_ref}
 pub use Rattle.expression_code.specs.Code.Names.{name_leaf}
 pub use Rattle.expression_code.specs.Code.Selection.{field_tail, has_tail, index_tail, size_tail, string_tail, test_tail}
 pub use Rattle.expression_code.specs.Contexts.{Context, Evaluates}

@@ -1,6 +1,6 @@
 -- Operators for which one truth decides, and the code of logical operators and of the conditional.
 -- For the laws in `specs/Gives/Logic`.
-use Rattle.expression_code.proofs.Prelude.{◌≡◌, ℕ, ◌+◌, List, Some, Bool, true, false, not, refl, sym, ap, ◌∙◌, subst, arith, suc, ◌<◌, ◌≤◌, [], ◌∷◌, ◌++◌, ℤ, pos, slice_get, w64, cast_unsigned, Names, Eq, Ne, Insn, R0, R1, W64, ValueOrError, error, is_error, truth, Truth, Yes, No, Other, and_of, chosen, conjunction, disjunction, not_of, of_truth, or_of, ternary_of, compares, CpuState, set_register, Context, IsWellFormedState, LeavesValue, Evaluates, RunContext, RunsTo, IsCodeAt, slots, size, word_at, absorbing_tail, false_ref, ternary_code, true_ref, AbsorbingGives, LogicGives, frame_words}
+use Rattle.expression_code.proofs.Prelude.{◌≡◌, ℕ, ◌+◌, List, Some, Bool, true, false, not, refl, sym, ap, ◌∙◌, subst, arith, suc, ◌<◌, ◌≤◌, [], ◌∷◌, ◌++◌, ℤ, pos, slice_get, w64, cast_unsigned, Names, Eq, Ne, Insn, R0, R1, W64, ValueOrError, error, is_error, truth, Truth, Yes, No, Other, and_of, chosen, conjunction, disjunction, not_of, of_truth, or_of, ternary_of, compares, CpuState, set_register, Context, IsWellFormedState, LeavesValue, Evaluates, RunContext, RunsTo, IsCodeAt, slots, size, word_at, absorbing_code, absorbing_tail, false_ref, ternary_code, true_ref, AbsorbingGives, LogicGives, frame_words}
 use Rattle.expression_code.proofs.Frames.{shows_registers, keeps_then}
 use Rattle.expression_code.proofs.Listings.{mov, no, yes, begins, jump, load}
 use Rattle.expression_code.proofs.Values.{Told, names_error, told}
@@ -110,7 +110,7 @@ module _ (decides other : ℤ) (f : ValueOrError → ValueOrError → ValueOrErr
       (λ is_not. no has 1 refl (right.decided ∙ is_not)
       (answer_runs decides other f op s c depth base k o (absorbing_tail decides other k) has refl refl refl b fits x y left right named early is_not))))
 
-absorbing_gives : (decides other : ℤ) (f : ValueOrError → ValueOrError → ValueOrError) → Absorbing decides other f → AbsorbingGives decides other f
+absorbing_gives : (decides other : ℤ) (f : ValueOrError → ValueOrError → ValueOrError) → Absorbing decides other f → AbsorbingGives (absorbing_code decides other) f
 absorbing_gives decides other f op s p k left right c depth x y n1 x1 n2 x2 low gives_left gives_right = record {
   runs = λ b has fits.
       let code = s.image.code in
