@@ -1,7 +1,7 @@
 -- The definitions that rows of policies unfold.
 use Rattle.std.specs.Prelude.{⊤}
 use Rattle.std.specs.Str.{chars, is_utf8}
-use Rattle.codegen.specs.Cost.{cost}
+use Rattle.tree_code.specs.Cost.{cost}
 use Rattle.cel_measures.specs.Measures.{deepest, need, nodes}
 use Rattle.std.specs.Fmt.{digits}
 use Rattle.policy_glue.specs.Documents.{document_of}
@@ -17,7 +17,7 @@ use Rattle.cel_macros.specs.Meaning.{meaning}
 use Rattle.cel_types.specs.Scope.{name_type, variable_type}
 use Rattle.policy_glue.specs.Budget.{policy_cost}
 use Rattle.policy_glue.specs.Limits.{policy_nodes, policy_texts}
-use Rattle.codegen.specs.Code.Expressions.{texts_of}
+use Rattle.tree_code.specs.Code.Expressions.{texts_of}
 use Rattle.cel_types.specs.Typing.{typing}
 use Rattle.serde_json.proofs.OnLiterals.{serde_json_on_literals}
 

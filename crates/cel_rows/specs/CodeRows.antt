@@ -10,10 +10,10 @@ use Rattle.cel_macros.specs.CoreTree.{Core, more_core_entries, more_cores, no_co
 use Rattle.cel_macros.specs.Written.{review}
 use Rattle.cel_macros.specs.declared.macros.Macro.TheVariants as macro
 use Rattle.value_store.specs.Value.{boolean, int, value}
-use Rattle.codegen.specs.Code.Expressions.{literal_texts, texts_of, texts_of_each, texts_of_entries}
-use Rattle.codegen.specs.Constants.{joined, with_text, with_texts}
-use Rattle.codegen.specs.Cost.{kept_by, literal_cost, name_or_text, nothing, one_visit, selection_cost, spent_of}
-use Rattle.codegen.specs.CostRows.{nested}
+use Rattle.tree_code.specs.Code.Expressions.{literal_texts, texts_of, texts_of_each, texts_of_entries}
+use Rattle.tree_code.specs.Constants.{joined, with_text, with_texts}
+use Rattle.tree_code.specs.Cost.{kept_by, literal_cost, name_or_text, nothing, one_visit, selection_cost, spent_of}
+use Rattle.tree_code.specs.CostRows.{nested}
 use Rattle.expression_code.specs.Limits.{charge_per_unit, memo_limit, node_limit, slots_per_node, steps_per_visit}
 use Rattle.expression_code.specs.Limits.{variable_depth_limit, word_limit}
 

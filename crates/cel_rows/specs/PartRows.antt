@@ -13,7 +13,7 @@ use Rattle.cel_types.specs.Declarations.{declared}
 use Rattle.cel_types.specs.Types.{MisplacedVariables, NoOverload, UnknownName, refused, typed}
 use Rattle.cel_types.specs.declared.cel_type.CelType.TheVariants as type
 use Rattle.cel_types.specs.declared.type_error.TypeError.TheVariants as type_error
-use Rattle.codegen.specs.CostRows.{nested}
+use Rattle.tree_code.specs.CostRows.{nested}
 use Rattle.policy_glue.specs.Budget.{IsDeepPolicy, policy_cost}
 use Rattle.policy_glue.specs.Checking.{depth_in, scope_after, type_error as error_of, type_or_any, with_depth, with_typing, with_variable}
 use Rattle.policy_glue.specs.CompileErrors.{compile_text, expression_text, kind_text, part_text, with_number}

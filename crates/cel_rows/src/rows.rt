@@ -74,7 +74,7 @@ pub fn measure_rows_stand()
 {}
 
 /// Limits and texts of code, and costs of what a macro keeps.
-#[tactic(auto, unfolding(codegen::specs::Code::Expressions::texts_of))]
+#[tactic(auto, unfolding(tree_code::specs::Code::Expressions::texts_of))]
 pub fn code_rows_stand()
     ensures limits { CodeLimitRowsStand }
     ensures texts { TextRowsStand }
@@ -83,7 +83,7 @@ pub fn code_rows_stand()
 {}
 
 /// Costs of conditionals.
-#[tactic(auto, unfolding(cel_macros::specs::Environment::is_root, cel_macros::specs::Functions::function_named, cel_macros::specs::Functions::test_named, cel_macros::specs::Macros::macro_named, cel_macros::specs::Macros::is_map, cel_macros::specs::Macros::is_has, cel_macros::specs::Macros::is_variables, cel_macros::specs::Environment::name_value, cel_macros::specs::Environment::variable_value, cel_macros::specs::Meaning::meaning, codegen::specs::Cost::cost))]
+#[tactic(auto, unfolding(cel_macros::specs::Environment::is_root, cel_macros::specs::Functions::function_named, cel_macros::specs::Functions::test_named, cel_macros::specs::Macros::macro_named, cel_macros::specs::Macros::is_map, cel_macros::specs::Macros::is_has, cel_macros::specs::Macros::is_variables, cel_macros::specs::Environment::name_value, cel_macros::specs::Environment::variable_value, cel_macros::specs::Meaning::meaning, tree_code::specs::Cost::cost))]
 pub fn cost_rows_stand()
     ensures { ConditionalRowsStand }
 {}
@@ -118,7 +118,7 @@ pub fn authorizer_rows_stand()
 {}
 
 /// Fields have their own names, also those that a cluster writes as escapes.
-#[tactic(auto, unfolding(cel_macros::specs::Environment::is_root, cel_macros::specs::Functions::function_named, cel_macros::specs::Functions::test_named, cel_macros::specs::Macros::macro_named, cel_macros::specs::Macros::is_map, cel_macros::specs::Macros::is_has, cel_macros::specs::Macros::is_variables, cel_macros::specs::Environment::name_value, cel_macros::specs::Environment::variable_value, cel_macros::specs::Meaning::meaning, codegen::specs::Cost::cost))]
+#[tactic(auto, unfolding(cel_macros::specs::Environment::is_root, cel_macros::specs::Functions::function_named, cel_macros::specs::Functions::test_named, cel_macros::specs::Macros::macro_named, cel_macros::specs::Macros::is_map, cel_macros::specs::Macros::is_has, cel_macros::specs::Macros::is_variables, cel_macros::specs::Environment::name_value, cel_macros::specs::Environment::variable_value, cel_macros::specs::Meaning::meaning, tree_code::specs::Cost::cost))]
 pub fn field_names_stand()
     ensures { FieldNameRowsStand }
 {}

@@ -5,14 +5,13 @@ use Rattle.insn_codec.specs.declared.insn.Insn.{Insn}
 use Rattle.cel_macros.specs.CoreTree.{Core}
 use Rattle.cel_measures.specs.Measures.{nodes}
 use Rattle.cel_types.specs.Declarations.{Declaration}
-use Rattle.expression_code.specs.Instructions.{ja}
-use Rattle.expression_code.specs.Pieces.{size}
 use Rattle.expression_code.specs.Variables.{memo_tail}
-use Rattle.codegen.specs.Code.Expressions.{texts_of}
-use Rattle.codegen.specs.Code.Whole.{whole_code}
-use Rattle.codegen.specs.Constants.{with_texts}
+use Rattle.tree_code.specs.Code.Expressions.{texts_of}
+use Rattle.tree_code.specs.Code.Whole.{whole_code}
+pub use Rattle.tree_code.specs.Code.Whole.{passed}
+use Rattle.tree_code.specs.Constants.{with_texts}
 use Rattle.codegen.specs.Emitted.{Emitted, with_nodes, with_piece, without_code}
-use Rattle.codegen.specs.NameTable.{routines_of}
+use Rattle.tree_code.specs.NameTable.{routines_of}
 use Rattle.codegen.specs.declared.emitter.Addition.{Addition, TheVariants.Expression, TheVariants.Variable}
 
 -- there is room for code: an image has slots for 512 nodes, 128 for each, and calls in the new code reach all
@@ -23,10 +22,6 @@ has_room e = nat_le e.nodes node_limit && nat_le (length e.code) code_limit
 -- an expression's code at a slot, from the start of a frame
 abbrev pub code_at : Emitted → List Declaration → Core → ℕ → List Insn
 code_at e scope tree p = whole_code tree e.constants (routines_of scope e.routines) p
-
--- a routine inside other code, after a jump over it
-abbrev pub passed : List Insn → List Insn
-passed piece = ja (size piece) ∷ piece
 
 -- the expression's texts, each once, and n nodes are added
 abbrev pub with_counted : Emitted → Core → ℕ → Emitted

@@ -22,9 +22,9 @@ use Rattle.expression_code.specs.Paths.{FrameUse, nothing_kept}
 use Rattle.expression_code.specs.Pieces.{AreInsns, IsCodeAt, size, slots}
 use Rattle.expression_code.specs.Scopes.{IsScope, Returns, Variable, bindings, scope_setting}
 use Rattle.expression_code.specs.Variables.{used_context}
-use Rattle.codegen.specs.Computes.{Computes, environment_in, scope_context, variable_with}
-use Rattle.codegen.specs.Constants.{joined, with_texts}
-use Rattle.codegen.specs.Cost.{Cost, IsDeep, cost, spent_by}
+use Rattle.tree_code.specs.Computes.{Computes, environment_in, scope_context, variable_with}
+use Rattle.tree_code.specs.Constants.{joined, with_texts}
+use Rattle.tree_code.specs.Cost.{Cost, IsDeep, cost, spent_by}
 use Rattle.codegen.specs.Emitted.{Emitted, IsTooLong}
 use Rattle.codegen.specs.Layer.{AreTaken}
 

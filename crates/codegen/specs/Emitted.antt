@@ -6,7 +6,7 @@ use Rattle.insn_codec.specs.declared.insn.Insn.{Insn}
 use Rattle.cel_measures.specs.Saturated.{saturated}
 use Rattle.insn_codec.specs.Limits.{slot_limit}
 use Rattle.loader.specs.Limits.{constants_limit}
-use Rattle.codegen.specs.Constants.{joined}
+use Rattle.tree_code.specs.Constants.{joined}
 use Rattle.expression_code.specs.Pieces.{slots}
 
 -- the instruction that begins at each slot of the code, the texts that the code uses, the number of nodes it comes

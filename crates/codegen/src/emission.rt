@@ -25,7 +25,7 @@ use std::alloc::Global;
 ///
 /// `NeedsTooManyWords` if the expression needs more than 60 words of the stack, `Memory` if an
 /// allocation fails. After an error the emitter is unchanged.
-#[tactic(auto, using(crate::proofs::Layer::expression_gives, crate::proofs::Layer::emits_expression, crate::proofs::Layer::low_each))]
+#[tactic(auto, using(tree_code::proofs::Layer::expression_gives, crate::proofs::Layer::emits_expression, crate::proofs::Layer::low_each))]
 pub fn expression(
     alloc: Global,
     core: &Core,

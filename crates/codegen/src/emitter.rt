@@ -10,18 +10,13 @@ ghost use Rattle.cel_macros.specs.CoreView.{core_view};
 ghost use Rattle.cel_measures.specs.Measures.{need, nodes};
 ghost use Rattle.cel_types.specs.Declarations.{declaration};
 ghost use Rattle.codegen.specs.Added.{code_at, with_addition, IsBehind};
-ghost use Rattle.codegen.specs.Constants.{joined as joined_texts};
+ghost use Rattle.tree_code.specs.Constants.{joined as joined_texts};
 ghost use Rattle.codegen.specs.Emitted.{no_code, with_piece, with_insn_at, with_nodes, slot_spellings, IsTooLong, HasTooManyTexts};
-ghost use Rattle.codegen.specs.HasLiterals.{HasLiterals};
+ghost use Rattle.tree_code.specs.HasLiterals.{HasLiterals};
 ghost use Rattle.expression_code.specs.Pieces.{slots, insn_slots, size};
 ghost use Rattle.expression_code.specs.Limits.{slot_reach, word_limit, node_limit, memo_limit, part_slots_per_node, code_limit};
 
-use crate::code::Code;
-use crate::code::routines::passed_routine;
 use crate::code_error::CodeError;
-use crate::constants::{byte_count, joined, take_texts};
-use crate::name_table::NameTable;
-use crate::whole_expression::whole_code;
 use cel_macros::Core;
 use cel_measures::nodes;
 use cel_types::Variable;
@@ -31,6 +26,8 @@ use insn_codec::{Insn, encode};
 use loader::CONSTANTS_LIMIT;
 use std::alloc::{AllocError, Global};
 use std::marker::Model;
+use tree_code::constants::{byte_count, joined, take_texts};
+use tree_code::{Code, NameTable, passed_routine, whole_code};
 
 /// The largest number of slots after which the code of an expression is added. With it, a call
 /// reaches every routine by an offset of 32 bits. An image has fewer slots.

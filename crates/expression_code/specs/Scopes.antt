@@ -1,5 +1,5 @@
 -- The variables of a scope with their routines. A variable may use the earlier ones.
--- For `codegen/src/code/variables.rt`; proofs in `proofs/Scopes`, `proofs/Returns` and `proofs/Later`.
+-- For `tree_code/src/code/variables.rt`; proofs in `proofs/Scopes`, `proofs/Returns` and `proofs/Later`.
 use Rattle.std.specs.Prelude.{◌≡◌, ℕ, suc, ◌+◌, ◌<◌, ◌≤◌, ℤ, pos, ◌+ℤ◌, Bool, List, [], ◌∷◌, ◌++◌, length, Option, Some, None, slice_get}
 use Rattle.std.specs.Prelude.{bytes_eq, option_map, if◌then◌else◌}
 use Rattle.std.specs.Prelude.{map as each}

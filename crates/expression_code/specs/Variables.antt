@@ -1,5 +1,5 @@
 -- Variables. Each has a memo, which is a word of the scratch region, and a routine that fills it at the first use.
--- Emitted by `codegen/src/code/variables.rt`; proofs in `proofs/Variables` and `proofs/Returns`.
+-- Emitted by `tree_code/src/code/variables.rt`; proofs in `proofs/Variables` and `proofs/Returns`.
 use Rattle.std.specs.Prelude.{◌≡◌, ℕ, ◌+◌, ◌<◌, ◌≤◌, ℤ, pos, negsuc, ◌+ℤ◌, List, [], ◌∷◌, ◌++◌, length, Bool}
 use Rattle.bpf_machine.specs.Limits.{record_limit}
 use Rattle.insn_codec.specs.declared.alu_op.AluOp.TheVariants.{Add}

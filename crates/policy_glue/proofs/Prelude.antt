@@ -86,23 +86,24 @@ pub use Rattle.cel_types.specs.Types.{Typing, allowed}
 pub use Rattle.cel_types.specs.declared.cel_type.CelType.{CelType}
 unfoldable pub use Rattle.cel_types.specs.Scope.{name_type, variable_type}
 unfoldable pub use Rattle.cel_types.specs.Typing.{typing}
-pub use Rattle.codegen.proofs.CodeInsns.{AreLow, AreNear, near_named}
 pub use Rattle.codegen.proofs.Finished.{slot_spellings-append, slots_spelled}
-pub use Rattle.codegen.proofs.Layer.{expression_gives, frames_are_enough, variable_is_taken, variable_joins}
-pub use Rattle.codegen.proofs.Whole.{whole_insns, whole_short}
-pub use Rattle.codegen.specs.Added.{code_at, has_room, passed, with_counted, with_expression}
-pub use Rattle.codegen.specs.Computes.{environment_in, variable_of}
-pub use Rattle.codegen.specs.Constants.{joined, with_text, with_texts}
-pub use Rattle.codegen.specs.Cost.{Cost, IsDeep, spent_by}
+pub use Rattle.codegen.specs.Added.{code_at, has_room, with_counted, with_expression}
 pub use Rattle.codegen.specs.Emitted.{Emitted, HasTooManyTexts, IsTooLong, no_code, slot_spellings, with_insn_at}
 pub use Rattle.codegen.specs.Emitted.{with_nodes, with_piece, without_code}
-pub use Rattle.codegen.specs.HasLiterals.{EntriesHaveLiterals, HasLiterals, HaveLiterals}
-pub use Rattle.codegen.specs.Layer.{AreShallow, HasConstants, IsEmittable}
-pub use Rattle.codegen.specs.NameTable.{routines_of}
-unfoldable pub use Rattle.codegen.specs.Code.Expressions.{code_of, texts_of}
-unfoldable pub use Rattle.codegen.specs.Code.KeptLists.{with_lists_of}
-unfoldable pub use Rattle.codegen.specs.Code.Whole.{first_path, whole_code}
-unfoldable pub use Rattle.codegen.specs.Cost.{cost}
+pub use Rattle.tree_code.proofs.CodeInsns.{AreLow, AreNear, near_named}
+pub use Rattle.tree_code.proofs.Layer.{expression_gives, frames_are_enough, variable_is_taken, variable_joins}
+pub use Rattle.tree_code.proofs.Whole.{whole_insns, whole_short}
+pub use Rattle.tree_code.specs.Code.Whole.{passed}
+pub use Rattle.tree_code.specs.Computes.{environment_in, variable_of}
+pub use Rattle.tree_code.specs.Constants.{joined, with_text, with_texts}
+pub use Rattle.tree_code.specs.Cost.{Cost, IsDeep, spent_by}
+pub use Rattle.tree_code.specs.HasLiterals.{EntriesHaveLiterals, HasLiterals, HaveLiterals}
+pub use Rattle.tree_code.specs.Layer.{AreShallow, HasConstants, IsEmittable}
+pub use Rattle.tree_code.specs.NameTable.{routines_of}
+unfoldable pub use Rattle.tree_code.specs.Code.Expressions.{code_of, texts_of}
+unfoldable pub use Rattle.tree_code.specs.Code.KeptLists.{with_lists_of}
+unfoldable pub use Rattle.tree_code.specs.Code.Whole.{first_path, whole_code}
+unfoldable pub use Rattle.tree_code.specs.Cost.{cost}
 pub use Rattle.expression_code.proofs.Accesses.{has_verdict}
 pub use Rattle.expression_code.proofs.Effects.{add_is, differs_no, differs_yes, does, equal_no, equal_yes, operand_is}
 pub use Rattle.expression_code.proofs.Effects.{register_set}

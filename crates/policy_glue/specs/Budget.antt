@@ -4,7 +4,7 @@ use Rattle.value_store.specs.Value.{ValueOrError}
 use Rattle.cel_reader.specs.Tree.{Tree}
 use Rattle.cel_macros.specs.Environment.{Environment, Roots}
 use Rattle.cel_macros.specs.Meaning.{meaning}
-use Rattle.codegen.specs.Cost.{Cost, ◌and◌, nothing, cost, one_visit}
+use Rattle.tree_code.specs.Cost.{Cost, ◌and◌, nothing, cost, one_visit}
 use Rattle.policy_glue.specs.Evaluation.{condition_values, environment_with, values_of, with_value}
 use Rattle.policy_glue.specs.Trees.{VariableTree, ValidationTree, PolicyTree}
 use Rattle.policy_glue.specs.Verdict.{decided_before, denies, truth_of}

@@ -6,7 +6,7 @@ use Rattle.cel_macros.specs.CoreView.{core_view}
 use Rattle.cel_measures.specs.Measures.{depth, need}
 use Rattle.cel_types.specs.Declarations.{Declaration, depths_of}
 use Rattle.codegen.specs.Added.{with_expression, with_variable}
-use Rattle.codegen.specs.Constants.{joined}
+use Rattle.tree_code.specs.Constants.{joined}
 use Rattle.codegen.specs.Emitted.{Emitted, no_code, with_insn_at, with_nodes, with_piece}
 use Rattle.expression_code.specs.Pieces.{spellings}
 use Rattle.expression_code.specs.Limits.{word_limit, variable_depth_limit}

@@ -8,8 +8,8 @@ use Rattle.expression_code.specs.Limits.{slots_per_node}
 use Rattle.cel_reader.specs.Tree.{Tree}
 use Rattle.cel_macros.specs.CoreTree.{expanded}
 use Rattle.cel_measures.specs.Measures.{nodes}
-use Rattle.codegen.specs.Constants.{joined, with_text}
-use Rattle.codegen.specs.Code.Expressions.{texts_of}
+use Rattle.tree_code.specs.Constants.{joined, with_text}
+use Rattle.tree_code.specs.Code.Expressions.{texts_of}
 use Rattle.policy_glue.specs.Checking.{PartsEnd}
 use Rattle.policy_glue.specs.Policy.{Policy}
 use Rattle.policy_glue.specs.Trees.{ValidationTree, PolicyTree}

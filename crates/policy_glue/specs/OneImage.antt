@@ -5,7 +5,7 @@ use Rattle.std.specs.Prelude.{◌≡◌, ℕ, List, Ok}
 use Rattle.loader.specs.Contents as loader
 use Rattle.loader.specs.declared.version.Version.{Version, TheVariants.Second}
 use Rattle.expression_code.specs.Pieces.{spellings}
-use Rattle.codegen.specs.Constants.{joined}
+use Rattle.tree_code.specs.Constants.{joined}
 use Rattle.policy_glue.specs.Limits.{Compiles, policy_texts}
 use Rattle.policy_glue.specs.Policy.{Policy}
 use Rattle.policy_glue.specs.ProgramCode.{program_of}

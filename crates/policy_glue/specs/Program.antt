@@ -12,7 +12,7 @@ use Rattle.insn_codec.specs.declared.width.Width.TheVariants.{W64}
 use Rattle.expression_code.specs.Instructions.{mov_reg, lddw, mov_imm, ja, jump_if_imm}
 use Rattle.expression_code.specs.Pieces.{size}
 use Rattle.expression_code.specs.Words.{verdict_address}
-use Rattle.codegen.specs.Added.{passed}
+use Rattle.tree_code.specs.Code.Whole.{passed}
 use Rattle.policy_glue.specs.Layout.{first_message, outcome_word, truth_word}
 use Rattle.policy_glue.specs.Verdict.{Fails, Errs, undecided}
 use Rattle.policy_glue.specs.declared.outcome.Outcome.{TheVariants.Skipped, TheVariants.Denied, TheVariants.Admitted}

@@ -5,9 +5,9 @@ use Rattle.cel_reader.specs.Tree.{Tree}
 use Rattle.cel_macros.specs.CoreTree.{expanded}
 use Rattle.cel_types.specs.Declarations.{Declaration}
 use Rattle.expression_code.specs.Pieces.{size}
-use Rattle.codegen.specs.Code.Whole.{routine_code, whole_code}
-use Rattle.codegen.specs.Constants.{with_texts}
-use Rattle.codegen.specs.NameTable.{routines_of}
+use Rattle.tree_code.specs.Code.Whole.{routine_code, whole_code}
+use Rattle.tree_code.specs.Constants.{with_texts}
+use Rattle.tree_code.specs.NameTable.{routines_of}
 use Rattle.policy_glue.specs.Checking.{scope_after, with_variable}
 use Rattle.policy_glue.specs.Limits.{tree_texts}
 use Rattle.policy_glue.specs.Program.{ValidationCode, policy_code}

@@ -16,8 +16,8 @@ use Rattle.bpf_machine.specs.Trace.{state_after}
 use Rattle.bpf_machine.specs.declared.status.Status.TheVariants.{Exited, Fault}
 use Rattle.expression_code.specs.Contexts.{HasValues}
 use Rattle.expression_code.specs.Pieces.{AreInsns, size, spellings}
-use Rattle.codegen.specs.Constants.{joined}
-use Rattle.codegen.specs.Layer.{IsEmittable}
+use Rattle.tree_code.specs.Constants.{joined}
+use Rattle.tree_code.specs.Layer.{IsEmittable}
 use Rattle.policy_glue.specs.Policy.{part_limit}
 use Rattle.policy_glue.specs.Budget.{IsDeepPolicy, policy_spent, policy_work}
 use Rattle.policy_glue.specs.Checking.{depth_in, scope_after, with_variable}

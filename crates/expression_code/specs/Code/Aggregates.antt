@@ -1,5 +1,5 @@
 -- List and map literals. The list or map so far is in word k and, between the parts, in R0; the parts use the words
--- after it. Emitted by `codegen/src/code/aggregates.rt`; laws in `Gives/Aggregates`, proofs in `proofs/Lists`,
+-- after it. Emitted by `tree_code/src/code/aggregates.rt`; laws in `Gives/Aggregates`, proofs in `proofs/Lists`,
 -- `proofs/Maps` and `proofs/Insertions`.
 use Rattle.std.specs.Prelude.{ℕ, ◌+◌, pos, List, [], ◌∷◌, ◌++◌}
 use Rattle.insn_codec.specs.declared.insn.Insn.{Insn, TheVariants.Call}

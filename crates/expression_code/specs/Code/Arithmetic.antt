@@ -1,6 +1,6 @@
 -- Arithmetic on 64-bit ints, and concatenation of texts and lists. An overflow is found by comparing words; that of a
 -- product by dividing it back.
--- Emitted by `codegen/src/code/arithmetic.rt`; laws in `Gives/Arithmetic`, proofs in `proofs/Additions`,
+-- Emitted by `tree_code/src/code/arithmetic.rt`; laws in `Gives/Arithmetic`, proofs in `proofs/Additions`,
 -- `proofs/Multiplications`, `proofs/Products`, `proofs/Negation` and `proofs/Ints`.
 use Rattle.std.specs.Prelude.{ℕ, ◌+◌, ◌^◌, ℤ, pos, negsuc, List, [], ◌∷◌, ◌++◌}
 use Rattle.insn_codec.specs.declared.alu_op.AluOp.{AluOp, TheVariants.Add, TheVariants.Sub, TheVariants.Mul, TheVariants.Sdiv}

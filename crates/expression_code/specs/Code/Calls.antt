@@ -1,5 +1,5 @@
 -- Loads operands into registers.
--- Emitted by `codegen/src/code/calls.rt`; laws in `Operators`, proofs in `proofs/Loaded` and `proofs/Operators`.
+-- Emitted by `tree_code/src/code/calls.rt`; laws in `Operators`, proofs in `proofs/Loaded` and `proofs/Operators`.
 use Rattle.std.specs.Prelude.{ℕ, ◌+◌, List, [], ◌∷◌, ◌++◌, Option, Some, None}
 use Rattle.insn_codec.specs.declared.insn.Insn.{Insn}
 use Rattle.insn_codec.specs.declared.register.Register.{Register, TheVariants.R0}

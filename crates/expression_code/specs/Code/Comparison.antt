@@ -1,5 +1,5 @@
 -- Comparisons of R1 with R2.
--- Emitted by `codegen/src/code/operators.rt`; laws in `Gives/Comparison`, proofs in `proofs/Comparison`.
+-- Emitted by `tree_code/src/code/operators.rt`; laws in `Gives/Comparison`, proofs in `proofs/Comparison`.
 use Rattle.std.specs.Prelude.{pos, List, [], ◌∷◌, ◌++◌}
 use Rattle.insn_codec.specs.declared.insn.Insn.{Insn, TheVariants.Call}
 use Rattle.insn_codec.specs.declared.register.Register.TheVariants.{R0, R1}

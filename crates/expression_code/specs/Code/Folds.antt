@@ -1,5 +1,5 @@
 -- Macros: loops over the items of a list or the keys of a map. Words of the frame hold the result so far and the
--- item. Emitted by `codegen/src/code/folds.rt`; laws in `Gives/Folds` and `Loops`, proofs in `proofs/Folds` and
+-- item. Emitted by `tree_code/src/code/folds.rt`; laws in `Gives/Folds` and `Loops`, proofs in `proofs/Folds` and
 -- `proofs/Loops`.
 use Rattle.std.specs.Prelude.{ℕ, ◌+◌, ℤ, pos, List, [], ◌∷◌, ◌++◌}
 use Rattle.insn_codec.specs.declared.comparison.Comparison.TheVariants.{Eq, Ne}

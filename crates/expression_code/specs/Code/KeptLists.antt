@@ -1,5 +1,5 @@
 -- The code of a list of literals whose value a word of the frame keeps after its first evaluation. Emitted by
--- `codegen/src/code/kept_lists.rt`; laws in `Gives/KeptLists`, proofs in `proofs/KeptLists`.
+-- `tree_code/src/code/kept_lists.rt`; laws in `Gives/KeptLists`, proofs in `proofs/KeptLists`.
 use Rattle.std.specs.Prelude.{ℕ, zero, suc, ◌+◌, pos, List, [], ◌∷◌, ◌++◌}
 use Rattle.insn_codec.specs.declared.comparison.Comparison.TheVariants.{Ne}
 use Rattle.insn_codec.specs.declared.insn.Insn.{Insn, TheVariants.StoreImm}

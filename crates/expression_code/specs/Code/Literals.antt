@@ -1,5 +1,5 @@
 -- Literals: null, truths, ints and texts.
--- Emitted by `codegen/src/code/literals.rt`; laws in `Gives/Leaves`, proofs in `proofs/Leaves`.
+-- Emitted by `tree_code/src/code/literals.rt`; laws in `Gives/Leaves`, proofs in `proofs/Leaves`.
 use Rattle.std.specs.Prelude.{ℕ, ℤ, pos, Bool, true, false, List, [], ◌∷◌}
 use Rattle.std.specs.Int.{w64, cast_unsigned}
 use Rattle.insn_codec.specs.declared.insn.Insn.{Insn, TheVariants.Call}

@@ -1,5 +1,5 @@
 -- Logical operators and the conditional. The references of the error, false and true are 0, 2 and 3.
--- Emitted by `codegen/src/code/logic.rt`; laws in `Gives/Logic`, proofs in `proofs/Logic`.
+-- Emitted by `tree_code/src/code/logic.rt`; laws in `Gives/Logic`, proofs in `proofs/Logic`.
 use Rattle.std.specs.Prelude.{ℕ, ◌+◌, ℤ, pos, List, [], ◌∷◌, ◌++◌}
 use Rattle.insn_codec.specs.declared.comparison.Comparison.TheVariants.{Eq, Ne}
 use Rattle.insn_codec.specs.declared.insn.Insn.{Insn, TheVariants.Call}

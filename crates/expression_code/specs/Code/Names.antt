@@ -1,5 +1,5 @@
 -- Names: of items, which are in words of the frame, and of the roots, which have their own references.
--- Emitted by `codegen/src/code/names.rt`; laws in `Gives/Leaves`, proofs in `proofs/Leaves`.
+-- Emitted by `tree_code/src/code/names.rt`; laws in `Gives/Leaves`, proofs in `proofs/Leaves`.
 use Rattle.std.specs.Prelude.{ℕ, ℤ, pos, List, [], ◌∷◌, Option, Some, None, codes}
 use Rattle.insn_codec.specs.declared.insn.Insn.{Insn}
 use Rattle.cel_macros.specs.Environment.{lookup}

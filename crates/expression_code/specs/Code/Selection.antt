@@ -1,5 +1,5 @@
 -- Field selection, indexing, and functions of texts and sizes.
--- Emitted by `codegen/src/code/selection.rt`; laws in `Gives/Selection`, proofs in `proofs/Selection`.
+-- Emitted by `tree_code/src/code/selection.rt`; laws in `Gives/Selection`, proofs in `proofs/Selection`.
 use Rattle.std.specs.Prelude.{ℕ, ℤ, pos, List, [], ◌∷◌}
 use Rattle.insn_codec.specs.declared.comparison.Comparison.TheVariants.{Ne}
 use Rattle.insn_codec.specs.declared.insn.Insn.{Insn, TheVariants.Call}

@@ -1,5 +1,5 @@
 -- A path whose value word 0 of the frame keeps.
--- Used by `codegen/src/code/paths.rt`; proofs in `proofs/Paths`.
+-- Used by `tree_code/src/code/paths.rt`; proofs in `proofs/Paths`.
 use Rattle.std.specs.Prelude.{◌≡◌, ℕ, ◌+◌, List, ◌∷◌, ◌++◌, length, Some}
 use Rattle.insn_codec.specs.declared.insn.Insn.{Insn}
 use Rattle.insn_codec.specs.declared.register.Register.TheVariants.{R0, R1}

@@ -1,7 +1,7 @@
 -- The program of a policy decides as the policy does, within its budget.
 use Rattle.policy_glue.proofs.Prelude.{◌≡◌, ℕ, ◌+◌, ◌-◌, ◌*◌, ◌≤◌, List, [], ◌∷◌, ◌++◌, length, length-append, append-nil, append_assoc, Bool, true, refl, ap, ◌∙◌, subst, sym, arith, Option, ◌<◌, false, ◌||◌, fold, map, All, if◌then◌else◌, map-append, fold-append, ValueOrError, expanded, plain_tree, Roots, Environment, expansion_plain, Declaration, scope_of, typing as type_of, ja, IsCodeAt, size, AreInsns, spellings, total, start_body, IsScope, Variable, bindings, first_charges, first_steps, scope_setting, stands_back, stands_front, stands_rest, environment_in, variable_of, joined, with_text, with_texts, IsDeep, cost, spent_by, Cost, AreShallow, HasConstants, IsEmittable, variable_is_taken, variable_joins, expression_gives, frames_are_enough, variables_cost, conditions_cost, message_cost, validations_cost, policy_cost, policy_spent, policy_work, runs_on, depth_in, type_or_any, with_variable, scope_after, environment_with, with_value, decision_of, values_of, tree_texts, variable_texts, condition_texts, message_texts, validation_tree_texts, validation_texts, policy_texts, routines_code, policy_code, Laid, after_variables, texts_with, variable_code, variable_codes, with_routine, after_condition, before_message, with_message, laid_conditions, laid_routines, nothing_laid, program_of, AreVariables, AreConditions, AreValidations, IsEmittableMessage, Decides, HasProgram, ProgramDecides, ProgramIsCode, ProgramStops, Tree, VariableTree, ValidationTree, PolicyTree, Insn, meaning, Context, HasValues, RunContext, ExitsOrRunsOut, routine_context, wider_gives, no_scope, ConditionsGive, MessageGives, Part, PartGives, ValidationPart, ValidationsGive, codes_of, message_size, codes_of_validations, validation_size, values_of_validations, validations_charge, validations_steps, values_given, denies, truth_of, Verdict, decided_before, verdict_of, FailurePolicy, Exit, Contents, DecodesSpelling, stays_stopped, State, start_state, state_after, CpuState, charges-most, spelled_stands, LeavesVerdict, conditions_place, passes, program_charge, program_steps, validations_place, constants_limit, variable_depth_limit, memo_limit, steps_per_visit, charge_per_unit}
 use Rattle.std.specs.Prelude.{is_none}
-use Rattle.codegen.specs.Layer.{AreTaken}
+use Rattle.tree_code.specs.Layer.{AreTaken}
 use Rattle.policy_glue.proofs.Programs.Sizes.{message_texts_are, conditions_place_is, conditions_slots, variables_place, conditions_texts, variables_texts}
 use Rattle.loader.specs.Contents as loader
 use Rattle.policy_glue.proofs.Programs.Whole.{policy_decides}

@@ -1,7 +1,0 @@
--- Loop invariant of `kept_lists::are_literals`.
-
-use Rattle.codegen.proofs.Prelude.{◌≡◌, drop, map, core_view, cores, are_literals}
-use Rattle.codegen.proofs.kept_lists.are_literals.Given as goal
-
-abbrev pub invariant-loop-item : goal.invariant-loop-item
-invariant-loop-item l = are_literals (cores (map core_view (drop l.item-index l.items))) ≡ are_literals (cores (map core_view l.items))

@@ -1,7 +1,0 @@
--- Loop invariant of `kept_lists::same_items`.
-
-use Rattle.codegen.proofs.Prelude.{◌≡◌, drop, map, core_view, cores, same_items}
-use Rattle.codegen.proofs.kept_lists.same_items.Given as goal
-
-abbrev pub invariant-loop-i : goal.invariant-loop-i
-invariant-loop-i l = same_items (cores (map core_view (drop l.i l.a))) (cores (map core_view (drop l.i l.b))) ≡ same_items (cores (map core_view l.a)) (cores (map core_view l.b))
