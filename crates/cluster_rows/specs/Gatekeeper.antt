@@ -24,6 +24,7 @@ use Rattle.cluster_state.specs.Rows.{config_kind}
 use Rattle.cluster_state.specs.State.{ClusterState}
 use Rattle.cluster_state.specs.declared.action.Action.TheVariants.{Deny}
 use Rattle.cluster_state.specs.declared.state_error.StateError.TheVariants.{NotAList, InvalidItem, DuplicateItem}
+use Rattle.cluster_state.specs.declared.binding_part.BindingPart.TheVariants.{PolicyName, ValidationActions}
 use Rattle.cluster_state.specs.declared.state_error.StateError.TheVariants.{NoNamespace, InvalidBinding}
 use Rattle.cluster_state.specs.declared.state_error.StateError.TheVariants.{InvalidPolicy, Memory}
 use Rattle.wide_policy.specs.declared.wide_policy_error.WidePolicyError.TheVariants.{HasAuditAnnotations}
@@ -156,7 +157,10 @@ pub record FaultLineRowsHold : Type 0 where
 -- the texts with a name, for every name
 pub record FaultNameRowsHold : Type 0 where
   pub duplicate : (name : String Global) → state_text (DuplicateItem name) ≡ codes "C3 " ++ string_bytes name
-  pub binding : (name : String Global) → state_text (InvalidBinding name) ≡ codes "C5 " ++ string_bytes name
+  pub binding : (name : String Global) → state_text (InvalidBinding name ValidationActions)
+      ≡ (codes "C5 " ++ string_bytes name) ++ codes ": spec.validationActions"
+  pub binding_of_no_policy : (name : String Global) → state_text (InvalidBinding name PolicyName)
+      ≡ (codes "C5 " ++ string_bytes name) ++ codes ": spec.policyName"
   pub policy : (name : String Global) → state_text (InvalidPolicy name) ≡ codes "C6 " ++ string_bytes name
   pub no_list : (name : String Global) → fault_text (NoList name) ≡ codes "C1 " ++ string_bytes name
   pub no_kind : (name : String Global) → fault_text (Blocked name UnknownParamKind) ≡ (codes "C8 " ++ string_bytes name) ++ []

@@ -11,6 +11,7 @@ use Rattle.cluster_state.specs.Refusals.{invalid_policy, no_namespace, not_a_lis
 use Rattle.cluster_state.specs.Rows.{definition, held, is_binding, limit_kind, limits, limits_kind, named_document}
 use Rattle.cluster_state.specs.Rows.{one_list, prod, read_binding, refusal, texts_of, thing, things, to_name}
 use Rattle.cluster_state.specs.declared.action.Action.TheVariants.{Warn}
+use Rattle.cluster_state.specs.declared.binding_part.BindingPart.TheVariants.{ParamRef, Spec}
 use Rattle.cluster_state.specs.declared.param_error.ParamError.TheVariants as param_error
 use Rattle.cluster_state.specs.declared.param_scope.ParamScope.TheVariants.{Cluster}
 use Rattle.cluster_state.specs.declared.state_error.StateError.TheVariants.{NotAList, InvalidItem, DuplicateItem}
@@ -54,7 +55,8 @@ pub record DueRowsHold : Type 0 where
 -- the error of the code for each refusal with a name, for every name
 pub record DueNameRowsHold : Type 0 where
   pub duplicate : (name : String Global) → IsDueRefusal (refused (duplicate_item (string_bytes name))) (DuplicateItem name)
-  pub binding : (name : String Global) → IsDueRefusal (refused (invalid_binding (string_bytes name))) (InvalidBinding name)
+  pub binding : (name : String Global) → IsDueRefusal (refused (invalid_binding (string_bytes name) ParamRef)) (InvalidBinding name ParamRef)
+  pub other_part : (name : String Global) → IsDueRefusal (refused (invalid_binding (string_bytes name) ParamRef)) (InvalidBinding name Spec) → ⊥
   pub policy : (name : String Global) → IsDueRefusal (refused (invalid_policy (string_bytes name))) (InvalidPolicy name)
 
 -- ---- bindings
@@ -76,13 +78,13 @@ pub record ActionRowsHold : Type 0 where
   -- parameterNotFoundAction is Allow
   pub absence_allows :
       read_binding (codes "{\"policyName\":\"p\",\"validationActions\":[\"Warn\"],\"paramRef\":{\"name\":\"limits\",\"parameterNotFoundAction\":\"Allow\"}}")
-      ≡ Some (record {
+      ≡ Some (Ok (record {
         name = codes "b";
         policy_name = codes "p";
         actions = Warn ∷ [];
         resources = match_all;
         param_ref = Some (record limits { denies_absence = false });
-      })
+      }))
 
 -- ---- params
 

@@ -1,5 +1,5 @@
 -- The names of the library and of the definitions that these proofs use. Declares nothing.
-pub use Rattle.std.proofs.Common.{◌≡◌, ◌||◌, ◌∙◌, ◌++◌, ◌∷◌, ◌+◌, ◌&&◌, ℕ, Bool, true, false, not, List, [], Option, None, Some, Result, Ok, Err, ap, append-nil, append_assoc, arith, codes, cond, drop, length, map, refl, sym, string_bytes, rules, if◌then◌else◌}
+pub use Rattle.std.proofs.Common.{◌≡◌, ◌||◌, ◌∙◌, ◌++◌, ◌∷◌, ◌+◌, ◌&&◌, ℕ, Bool, true, false, not, List, [], Option, None, Some, Result, Ok, Err, ap, append-nil, append_assoc, arith, codes, cond, drop, length, map, refl, subst, sym, string_bytes, rules, if◌then◌else◌}
 pub use Rattle.std.proofs.lemmas.List.{map-append}
 pub use Rattle.std.proofs.lemmas.Result.{IfOk-weaker}
 pub use Rattle.std.proofs.lemmas.Map.Text.{is_eq-slice_cmp}

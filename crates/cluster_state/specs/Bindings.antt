@@ -1,5 +1,5 @@
 -- Bindings (Kubernetes, ValidatingAdmissionPolicyBinding of admissionregistration.k8s.io/v1), with the API server's defaults.
-use Rattle.std.specs.Prelude.{ℕ, ◌&&◌, ◌==◌, Bool, true, false, not, List, [], ◌∷◌, Option, Some, None, Result, Ok, Err, bytes_eq, codes, length, nat_le, option_map, if◌then◌else◌}
+use Rattle.std.specs.Prelude.{◌≡◌, ℕ, ◌&&◌, ◌==◌, Bool, true, false, not, List, [], ◌∷◌, Option, Some, None, Result, Ok, Err, bytes_eq, codes, length, nat_le, option_map, if◌then◌else◌}
 use Rattle.std.specs.List.{filter, list_any}
 use Rattle.serde_json.specs.Data as json
 use Rattle.label_selectors.specs.Selectors.{LabelSelector, selector_view}
@@ -12,6 +12,10 @@ use Rattle.cluster_state.specs.Refusals.{Refusal, invalid_binding}
 use Rattle.cluster_state.specs.declared.action.Action.{Action}
 use Rattle.cluster_state.specs.declared.action.Action.TheVariants.{Deny, Warn, Audit}
 use Rattle.cluster_state.specs.declared.binding.Binding.{Binding as CodeBinding}
+use Rattle.cluster_state.specs.declared.binding_error.BindingError.{BindingError}
+use Rattle.cluster_state.specs.declared.binding_error.BindingError.TheVariants as binding_error
+use Rattle.cluster_state.specs.declared.binding_part.BindingPart.{BindingPart}
+use Rattle.cluster_state.specs.declared.binding_part.BindingPart.TheVariants as part
 use Rattle.cluster_state.specs.declared.param_choice.ParamChoice.{ParamChoice as CodeChoice}
 use Rattle.cluster_state.specs.declared.param_choice.ParamChoice.TheVariants as code
 use Rattle.cluster_state.specs.declared.param_ref.ParamRef.{ParamRef as CodeRef}
@@ -133,39 +137,42 @@ if_text None = None
 unfoldable pub binding_keys : List (List ℕ)
 binding_keys = codes "matchResources" ∷ codes "paramRef" ∷ codes "policyName" ∷ codes "validationActions" ∷ []
 
--- a binding, if each of its parts has the right form
+-- a binding, or the first of its parts that does not have the right form
 abbrev pub binding_from : List ℕ → Option (List ℕ) → Option (List Action) → Option MatchResources
-    → Option (Option ParamRef) → Option Binding
-binding_from name (Some policy) (Some actions) (Some resources) (Some params) = Some (record {
+    → Option (Option ParamRef) → Result Binding BindingPart
+binding_from name None _ _ _ = Err part.PolicyName
+binding_from name (Some policy) None _ _ = Err part.ValidationActions
+binding_from name (Some policy) (Some actions) None _ = Err part.MatchResources
+binding_from name (Some policy) (Some actions) (Some resources) None = Err part.ParamRef
+binding_from name (Some policy) (Some actions) (Some resources) (Some params) = Ok (record {
   name = name;
   policy_name = policy;
   actions = actions;
   resources = resources;
   param_ref = params;
 })
-binding_from name _ _ _ _ = None
 
 -- its `policyName`, `validationActions`, `matchResources` and `paramRef`
-unfoldable pub binding_parts : List ℕ → json.Data → Option Binding
+unfoldable pub binding_parts : List ℕ → json.Data → Result Binding BindingPart
 binding_parts name d = binding_from name
     (if_text (text_of (field (codes "policyName") d)))
     (actions_of (field (codes "validationActions") d))
     (match_resources_of (field (codes "matchResources") d))
     (param_ref_of (field (codes "paramRef") d))
 
-abbrev pub binding_spec : List ℕ → Option json.Data → Option Binding
-binding_spec name None = None
-binding_spec name (Some d) = if has_only binding_keys d then binding_parts name d else None
+abbrev pub binding_spec : List ℕ → Option json.Data → Result Binding BindingPart
+binding_spec name None = Err part.Spec
+binding_spec name (Some d) = if has_only binding_keys d then binding_parts name d else Err part.Spec
 
--- the binding with this name in a document
-unfoldable pub binding_in : List ℕ → json.Data → Option Binding
+-- the binding with this name in a document, or its first invalid part
+unfoldable pub binding_in : List ℕ → json.Data → Result Binding BindingPart
 binding_in name d = binding_spec name (field (codes "spec") d)
 
 -- this binding in front of the others, or its refusal
-abbrev pub binding_before : List ℕ → Option Binding → Result (List Binding) Refusal → Result (List Binding) Refusal
-binding_before name None rest = Err (invalid_binding name)
-binding_before name (Some b) (Ok bs) = Ok (b ∷ bs)
-binding_before name (Some b) (Err e) = Err e
+abbrev pub binding_before : List ℕ → Result Binding BindingPart → Result (List Binding) Refusal → Result (List Binding) Refusal
+binding_before name (Err p) rest = Err (invalid_binding name p)
+binding_before name (Ok b) (Ok bs) = Ok (b ∷ bs)
+binding_before name (Ok b) (Err e) = Err e
 
 -- all bindings
 abbrev pub bindings_in : Named → Result (List Binding) Refusal
@@ -193,3 +200,9 @@ binding_view b = record {
   resources = match_view b.resources;
   param_ref = option_map param_ref_view b.param_ref;
 }
+
+-- the binding is returned, or its first invalid part; or an allocation failed
+abbrev pub ReadsBinding : Result Binding BindingPart → Result CodeBinding BindingError → Type 0
+ReadsBinding due (Ok b) = due ≡ Ok (binding_view b)
+ReadsBinding due (Err (binding_error.InvalidPart p)) = due ≡ Err p
+ReadsBinding due (Err binding_error.Memory) = Unit {0}

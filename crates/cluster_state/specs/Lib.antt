@@ -6,6 +6,7 @@ pub mod Items
 pub mod Laws
 pub mod Objects
 pub mod Params
+pub mod Parts
 pub mod Policies
 pub mod Refusals
 pub mod Rows

@@ -1,5 +1,6 @@
 -- Literal lists, and what the definitions read in them.
-use Rattle.std.specs.Prelude.{◌≡◌, ℕ, Bool, true, false, List, [], ◌∷◌, ◌++◌, map, Option, Some, None, Result, Ok, Err, codes, is_some, option_and_then}
+use Rattle.std.specs.Prelude.{◌≡◌, ℕ, Bool, true, false, List, [], ◌∷◌, ◌++◌, map, Option, Some, None, Result, Ok, Err, codes, is_some, option_and_then, option_map}
+use Rattle.std.specs.Result.{result_err, result_ok}
 use Rattle.serde_json.specs.Data as json
 use Rattle.serde_json.specs.Read.{read}
 use Rattle.admission_documents.specs.Matching.{match_all}
@@ -9,10 +10,13 @@ use Rattle.cluster_state.specs.Bindings.{Binding, ParamRef, binding_in, by_label
 use Rattle.cluster_state.specs.Items.{Item}
 use Rattle.cluster_state.specs.Objects.{Named, Objects, no_objects, with_item}
 use Rattle.cluster_state.specs.Params.{KnownKind, known_kind, missing, namespace_object, no_object, object, params_of, scope_by}
+use Rattle.cluster_state.specs.Parts.{binding_part_path}
 use Rattle.cluster_state.specs.Policies.{ParamKind}
 use Rattle.cluster_state.specs.Refusals.{Refusal, not_a_list, invalid_item, duplicate_item, no_namespace, invalid_binding, invalid_policy}
 use Rattle.cluster_state.specs.State.{ClusterState, state_of}
 use Rattle.cluster_state.specs.declared.action.Action.TheVariants.{Deny, Warn, Audit}
+use Rattle.cluster_state.specs.declared.binding_part.BindingPart.{BindingPart}
+use Rattle.cluster_state.specs.declared.binding_part.BindingPart.TheVariants as part
 use Rattle.cluster_state.specs.declared.param_error.ParamError.TheVariants.{ClusterScopedRequest, NeedlessNamespace, NotFound}
 use Rattle.cluster_state.specs.declared.param_scope.ParamScope.TheVariants.{Namespaced, Cluster}
 
@@ -118,19 +122,22 @@ pub record StateRowsHold : Type 0 where
   pub none : refusal (one_list []) ≡ Some no_namespace
   pub namespaces_before_bindings : refusal (one_list (binding (codes "p") (codes "[]") ∷ [])) ≡ Some no_namespace
   pub deny_with_warn : refusal (one_list (binding (codes "p") (codes "[\"Deny\",\"Warn\"]") ∷ prod ∷ []))
-      ≡ Some (invalid_binding (codes "b"))
+      ≡ Some (invalid_binding (codes "b") part.ValidationActions)
   pub bindings_before_policies : refusal (one_list (bare_policy ∷ binding (codes "p") (codes "[]") ∷ prod ∷ []))
-      ≡ Some (invalid_binding (codes "b"))
+      ≡ Some (invalid_binding (codes "b") part.ValidationActions)
   pub no_rules : refusal (one_list (bare_policy ∷ binding (codes "p") deny ∷ prod ∷ [])) ≡ Some (invalid_policy (codes "p"))
 
 -- ---- bindings
 
--- the binding b with this specification
-abbrev pub read_binding : List ℕ → Option Binding
-read_binding spec = option_and_then (binding_in (codes "b")) (read (codes "{\"spec\":" ++ (spec ++ codes "}")))
+-- the binding b with this specification, or its first invalid part
+abbrev pub read_binding : List ℕ → Option (Result Binding BindingPart)
+read_binding spec = option_map (binding_in (codes "b")) (read (codes "{\"spec\":" ++ (spec ++ codes "}")))
 
 abbrev pub is_binding : List ℕ → Bool
-is_binding spec = is_some (read_binding spec)
+is_binding spec = is_some (option_and_then result_ok (read_binding spec))
+
+abbrev pub invalid_part : List ℕ → Option BindingPart
+invalid_part spec = option_and_then result_err (read_binding spec)
 
 abbrev pub limits : ParamRef
 limits = record { choice = by_name (codes "limits"); namespace = []; denies_absence = true }
@@ -138,29 +145,47 @@ limits = record { choice = by_name (codes "limits"); namespace = []; denies_abse
 pub record BindingRowsHold : Type 0 where
   pub params :
       read_binding (codes "{\"policyName\":\"p\",\"validationActions\":[\"Warn\",\"Audit\"],\"paramRef\":{\"name\":\"limits\",\"parameterNotFoundAction\":\"Deny\"}}")
-      ≡ Some (record {
+      ≡ Some (Ok (record {
         name = codes "b";
         policy_name = codes "p";
         actions = Warn ∷ Audit ∷ [];
         resources = match_all;
         param_ref = Some limits;
-      })
+      }))
   pub no_params : read_binding (codes "{\"policyName\":\"p\",\"validationActions\":[\"Deny\"],\"matchResources\":null}")
-      ≡ Some (record { name = codes "b"; policy_name = codes "p"; actions = Deny ∷ []; resources = match_all; param_ref = None })
+      ≡ Some (Ok (record { name = codes "b"; policy_name = codes "p"; actions = Deny ∷ []; resources = match_all; param_ref = None }))
   pub selector :
       is_binding (codes "{\"policyName\":\"p\",\"validationActions\":[\"Deny\"],\"paramRef\":{\"selector\":{},\"parameterNotFoundAction\":\"Allow\"}}") ≡ true
-  pub no_policy : is_binding (codes "{\"validationActions\":[\"Deny\"]}") ≡ false
-  pub empty_policy : is_binding (codes "{\"policyName\":\"\",\"validationActions\":[\"Deny\"]}") ≡ false
-  pub no_actions : is_binding (codes "{\"policyName\":\"p\"}") ≡ false
-  pub doubled_action : is_binding (codes "{\"policyName\":\"p\",\"validationActions\":[\"Deny\",\"Deny\"]}") ≡ false
-  pub other_action : is_binding (codes "{\"policyName\":\"p\",\"validationActions\":[\"Log\"]}") ≡ false
-  pub unknown_key : is_binding (codes "{\"policyName\":\"p\",\"validationActions\":[\"Deny\"],\"x\":1}") ≡ false
+  pub no_policy : invalid_part (codes "{\"validationActions\":[\"Deny\"]}") ≡ Some part.PolicyName
+  pub empty_policy : invalid_part (codes "{\"policyName\":\"\",\"validationActions\":[\"Deny\"]}") ≡ Some part.PolicyName
+  pub no_actions : invalid_part (codes "{\"policyName\":\"p\"}") ≡ Some part.ValidationActions
+  pub doubled_action : invalid_part (codes "{\"policyName\":\"p\",\"validationActions\":[\"Deny\",\"Deny\"]}") ≡ Some part.ValidationActions
+  pub other_action : invalid_part (codes "{\"policyName\":\"p\",\"validationActions\":[\"Log\"]}") ≡ Some part.ValidationActions
+  pub unknown_key : invalid_part (codes "{\"policyName\":\"p\",\"validationActions\":[\"Deny\"],\"x\":1}") ≡ Some part.Spec
   pub name_and_selector :
-      is_binding (codes "{\"policyName\":\"p\",\"validationActions\":[\"Deny\"],\"paramRef\":{\"name\":\"a\",\"selector\":{},\"parameterNotFoundAction\":\"Deny\"}}") ≡ false
+      invalid_part (codes "{\"policyName\":\"p\",\"validationActions\":[\"Deny\"],\"paramRef\":{\"name\":\"a\",\"selector\":{},\"parameterNotFoundAction\":\"Deny\"}}") ≡ Some part.ParamRef
   pub neither :
-      is_binding (codes "{\"policyName\":\"p\",\"validationActions\":[\"Deny\"],\"paramRef\":{\"parameterNotFoundAction\":\"Deny\"}}") ≡ false
+      invalid_part (codes "{\"policyName\":\"p\",\"validationActions\":[\"Deny\"],\"paramRef\":{\"parameterNotFoundAction\":\"Deny\"}}") ≡ Some part.ParamRef
   pub no_action_of_absence :
-      is_binding (codes "{\"policyName\":\"p\",\"validationActions\":[\"Deny\"],\"paramRef\":{\"name\":\"a\"}}") ≡ false
+      invalid_part (codes "{\"policyName\":\"p\",\"validationActions\":[\"Deny\"],\"paramRef\":{\"name\":\"a\"}}") ≡ Some part.ParamRef
+  -- the first part that is invalid
+  pub no_specification : option_map (binding_in (codes "b")) (read (codes "{}")) ≡ Some (Err part.Spec)
+  pub list_as_specification : invalid_part (codes "[]") ≡ Some part.Spec
+  pub other_policy_of_matches :
+      invalid_part (codes "{\"policyName\":\"p\",\"validationActions\":[\"Deny\"],\"matchResources\":{\"matchPolicy\":\"Some\"}}") ≡ Some part.MatchResources
+  pub actions_before_matches :
+      invalid_part (codes "{\"policyName\":\"p\",\"matchResources\":{\"matchPolicy\":\"Some\"},\"paramRef\":{}}") ≡ Some part.ValidationActions
+  pub matches_before_params :
+      invalid_part (codes "{\"policyName\":\"p\",\"validationActions\":[\"Warn\"],\"matchResources\":{\"matchPolicy\":\"Some\"},\"paramRef\":{}}")
+      ≡ Some part.MatchResources
+  pub key_before_policy : invalid_part (codes "{\"x\":1}") ≡ Some part.Spec
+  pub none : invalid_part (codes "{\"policyName\":\"p\",\"validationActions\":[\"Deny\"]}") ≡ None
+  -- the paths of the parts
+  pub specification : binding_part_path part.Spec ≡ codes "spec"
+  pub policy_name : binding_part_path part.PolicyName ≡ codes "spec.policyName"
+  pub actions : binding_part_path part.ValidationActions ≡ codes "spec.validationActions"
+  pub resources : binding_part_path part.MatchResources ≡ codes "spec.matchResources"
+  pub param_ref : binding_part_path part.ParamRef ≡ codes "spec.paramRef"
 
 -- ---- params
 

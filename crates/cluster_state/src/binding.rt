@@ -2,13 +2,14 @@
 ghost use Rattle.std.specs.Prelude.{◌≡◌, Some, option_map};
 ghost use Rattle.serde_json.specs.View.{view};
 ghost use Rattle.admission_documents.specs.Documents.{has_only};
-ghost use Rattle.admission_documents.specs.Fields.{ReadsField};
-ghost use Rattle.cluster_state.specs.Bindings.{binding_in, binding_keys, binding_parts, binding_spec, binding_view, if_text};
+ghost use Rattle.cluster_state.specs.Bindings.{ReadsBinding, binding_in, binding_keys, binding_parts, binding_spec, if_text};
 
 use crate::action::Action;
 use crate::actions::actions;
+use crate::binding_error::BindingError;
+use crate::binding_part::BindingPart;
 use crate::param_ref::{ParamRef, param_ref};
-use admission_documents::{FieldError, field, has_only_keys, match_resources, text};
+use admission_documents::{field, has_only_keys, match_resources, text};
 use admission_match::MatchResources;
 use serde_json::Value;
 use std::alloc::Global;
@@ -32,14 +33,14 @@ impl<'a> Binding<'a> {
     ///
     /// # Errors
     ///
-    /// The API server does not store it, or a key of its specification is unknown.
+    /// The first part that the API server does not store. `Memory` if an allocation fails.
     #[tactic(auto, unfolding(crate::specs::Bindings::binding_in))]
     pub fn read(
         alloc: Global,
         name: &'a str,
         document: &'a Value,
-    ) -> Result<Binding<'a>, FieldError>
-        ensures { ReadsField binding_view (binding_in name.now (view document.now)) result }
+    ) -> Result<Binding<'a>, BindingError>
+        ensures { ReadsBinding (binding_in name.now (view document.now)) result }
     {
         binding_spec(alloc, name, field(document, "spec"))
     }
@@ -49,20 +50,24 @@ fn binding_spec<'a>(
     alloc: Global,
     name: &'a str,
     value: Option<&'a Value>,
-) -> Result<Binding<'a>, FieldError>
-    ensures { ReadsField binding_view (binding_spec name.now (option_map (λ v. view v.now) value.entry)) result }
+) -> Result<Binding<'a>, BindingError>
+    ensures { ReadsBinding (binding_spec name.now (option_map (λ v. view v.now) value.entry)) result }
 {
     match value {
-        None => Err(FieldError::InvalidField),
+        None => Err(BindingError::InvalidPart(BindingPart::Spec)),
         Some(value) => known_spec(alloc, name, value),
     }
 }
 
-fn known_spec<'a>(alloc: Global, name: &'a str, value: &'a Value) -> Result<Binding<'a>, FieldError>
-    ensures { ReadsField binding_view (binding_spec name.now (Some (view value.now))) result }
+fn known_spec<'a>(
+    alloc: Global,
+    name: &'a str,
+    value: &'a Value,
+) -> Result<Binding<'a>, BindingError>
+    ensures { ReadsBinding (binding_spec name.now (Some (view value.now))) result }
 {
     if !has_binding_keys(value) {
-        return Err(FieldError::InvalidField);
+        return Err(BindingError::InvalidPart(BindingPart::Spec));
     }
     binding_parts(alloc, name, value)
 }
@@ -85,14 +90,20 @@ fn binding_parts<'a>(
     alloc: Global,
     name: &'a str,
     value: &'a Value,
-) -> Result<Binding<'a>, FieldError>
-    ensures { ReadsField binding_view (binding_parts name.now (view value.now)) result }
+) -> Result<Binding<'a>, BindingError>
+    ensures { ReadsBinding (binding_parts name.now (view value.now)) result }
 {
     let Some(policy_name) = if_text(text(field(value, "policyName"))) else {
-        return Err(FieldError::InvalidField);
+        return Err(BindingError::InvalidPart(BindingPart::PolicyName));
     };
-    let actions = actions(alloc, field(value, "validationActions"))?;
-    let resources = match_resources(alloc, field(value, "matchResources"))?;
+    let actions = match actions(alloc, field(value, "validationActions")) {
+        Ok(actions) => actions,
+        Err(error) => return Err(BindingError::in_part(BindingPart::ValidationActions, error)),
+    };
+    let resources = match match_resources(alloc, field(value, "matchResources")) {
+        Ok(resources) => resources,
+        Err(error) => return Err(BindingError::in_part(BindingPart::MatchResources, error)),
+    };
     match param_ref(alloc, field(value, "paramRef")) {
         Ok(param_ref) => Ok(Binding {
             name,
@@ -101,7 +112,7 @@ fn binding_parts<'a>(
             resources,
             param_ref,
         }),
-        Err(error) => Err(error),
+        Err(error) => Err(BindingError::in_part(BindingPart::ParamRef, error)),
     }
 }
 

@@ -4,6 +4,8 @@
 mod action;
 mod actions;
 mod binding;
+mod binding_error;
+mod binding_part;
 mod bindings;
 mod item;
 mod kinds;
@@ -31,6 +33,8 @@ mod state_objects;
 
 pub use action::Action;
 pub use binding::Binding;
+pub use binding_error::BindingError;
+pub use binding_part::BindingPart;
 pub use item::Item;
 pub use known_kind::KnownKind;
 pub use lists::parse;

@@ -12,6 +12,7 @@ ghost use Rattle.cluster_state.specs.State as specs;
 ghost use Rattle.cluster_state.specs.State.{ObjectsRead, objects_of};
 
 use crate::binding::Binding;
+use crate::binding_error::BindingError;
 use crate::item::Item;
 use crate::objects::Objects;
 use crate::policy::Policy;
@@ -67,9 +68,10 @@ fn bindings_in<'a>(
     for (name, document) in named.iter() {
         match Binding::read(alloc, name, document) {
             Ok(binding) => bindings.push(binding)?,
-            Err(FieldError::Memory) => return Err(StateError::Memory),
-            Err(FieldError::InvalidField) => {
-                return Err(StateError::InvalidBinding(String::from_str(alloc, name)?));
+            Err(BindingError::Memory) => return Err(StateError::Memory),
+            Err(BindingError::InvalidPart(part)) => {
+                let name = String::from_str(alloc, name)?;
+                return Err(StateError::InvalidBinding(name, part));
             }
         }
     }

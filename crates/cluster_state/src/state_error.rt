@@ -2,6 +2,7 @@
 ghost use Rattle.std.specs.Prelude.{◌≡◌};
 ghost use Rattle.cluster_state.specs.declared.state_error.StateError.TheVariants.{Memory};
 
+use crate::binding_part::BindingPart;
 use std::alloc::{AllocError, AllocFailed};
 use thiserror::Error;
 
@@ -23,9 +24,10 @@ pub enum StateError {
     /// There is no Namespace, although each cluster has one.
     #[error("no Namespace is listed")]
     NoNamespace,
-    /// The API server does not store the binding with this name, or one of its keys is unknown.
-    #[error("the binding {0} has not its form")]
-    InvalidBinding(String),
+    /// The API server does not store this part of the binding with this name, or one of its keys is
+    /// unknown.
+    #[error("{1} of the binding {0} has not its form")]
+    InvalidBinding(String, BindingPart),
     /// The API server does not store the match constraints or the kind of params of the policy with
     /// this name, or one of their keys is unknown.
     #[error("the policy {0} has not its form")]

@@ -38,7 +38,7 @@ module _ (known : Option FileSystem) (order : ClusterOrder) (lists : List json.D
   refused_state (state_error.InvalidItem n) listed due = no_state _ hold due
   refused_state (state_error.DuplicateItem name) listed due = no_state _ hold due
   refused_state state_error.NoNamespace listed due = no_state _ hold due
-  refused_state (state_error.InvalidBinding name) listed due = no_state _ hold due
+  refused_state (state_error.InvalidBinding name part) listed due = no_state _ hold due
   refused_state (state_error.InvalidPolicy name) listed due = no_state _ hold due
 
   module _ (s : ClusterState) (is : state_of lists ≡ Ok s) where

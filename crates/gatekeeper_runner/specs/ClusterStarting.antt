@@ -10,6 +10,7 @@ use Rattle.cli.specs.Refusals.{policy_text}
 use Rattle.cli.specs.WideTexts.{wide_text}
 use Rattle.cli.specs.declared.refusal.Refusal.TheVariants.{Memory}
 use Rattle.value_store.specs.Documents.{document_of}
+use Rattle.cluster_state.specs.Parts.{binding_part_path}
 use Rattle.cluster_state.specs.Refusals.{IsDueRefusal, not_a_list}
 use Rattle.cluster_state.specs.State.{ClusterState, state_of}
 use Rattle.cluster_state.specs.declared.state_error.StateError.{StateError}
@@ -95,13 +96,17 @@ pub data ClusterStarts (known : Option FileSystem) (order : ClusterOrder) : Resu
 
 -- ---- the line of a start that is refused
 
+-- a code and a name, with a space between
+abbrev pub code_and_name : List ℕ → List ℕ → List ℕ
+code_and_name code name = code ++ (codes " " ++ name)
+
 -- why the lists are not the state of a cluster
 abbrev pub state_text : StateError → List ℕ
 state_text (NotAList place) = codes "C1 " ++ decimal place
 state_text (InvalidItem place) = codes "C2 " ++ decimal place
 state_text (DuplicateItem name) = codes "C3 " ++ string_bytes name
 state_text NoNamespace = codes "C4"
-state_text (InvalidBinding name) = codes "C5 " ++ string_bytes name
+state_text (InvalidBinding name part) = code_and_name (codes "C5") (string_bytes name) ++ (codes ": " ++ binding_part_path part)
 state_text (InvalidPolicy name) = codes "C6 " ++ string_bytes name
 state_text state_error.Memory = codes "memory"
 
@@ -115,10 +120,6 @@ cause_text UnknownParamKind = []
 -- the code of a blocked policy
 abbrev pub cause_code : BlockCause → List ℕ
 cause_code cause = cluster_refusal_code (block_refusal (block_of cause))
-
--- a code and a name, with a space between
-abbrev pub code_and_name : List ℕ → List ℕ → List ℕ
-code_and_name code name = code ++ (codes " " ++ name)
 
 -- the text of a fault
 abbrev pub fault_text : ClusterFault → List ℕ

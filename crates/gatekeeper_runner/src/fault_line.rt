@@ -1,5 +1,5 @@
 //! The line of standard error on a cluster's state or a file that is refused.
-ghost use Rattle.std.specs.Prelude.{◌≡◌, ◌++◌, decimal, IfOk, OnOk};
+ghost use Rattle.std.specs.Prelude.{◌≡◌, ◌++◌, codes, decimal, IfOk, OnOk};
 ghost use Rattle.gatekeeper_runner.specs.ClusterStarting.{code_and_name, fault_line, fault_text, state_text};
 ghost use Rattle.gatekeeper_runner.specs.FileFaults.{file_front, file_text};
 
@@ -78,10 +78,21 @@ fn add_state(line: &mut Vec<u8>, error: &StateError) -> Result<(), AllocError>
         StateError::InvalidItem(place) => add_placed(line, "C2 ", *place),
         StateError::DuplicateItem(name) => add_named(line, "C3", name.as_str()),
         StateError::NoNamespace => add_text(line, "C4"),
-        StateError::InvalidBinding(name) => add_named(line, "C5", name.as_str()),
+        StateError::InvalidBinding(name, part) => {
+            add_named(line, "C5", name.as_str())?;
+            add_part(line, part.path())
+        }
         StateError::InvalidPolicy(name) => add_named(line, "C6", name.as_str()),
         StateError::Memory => add_text(line, "memory"),
     }
+}
+
+/// Adds the path of an invalid part, after a name.
+fn add_part(line: &mut Vec<u8>, path: &str) -> Result<(), AllocError>
+    ensures { OnOk result (line.new.items ≡ line.old.items ++ (codes ": " ++ path.now)) }
+{
+    add_text(line, ": ")?;
+    add_text(line, path)
 }
 
 /// Adds a code and a name.

@@ -301,16 +301,28 @@ class States(unittest.TestCase):
                 self.assertEqual(self.of_items(PROD, item), "C2 1")
 
     def test_bindings(self) -> None:
-        wrong: list[dict[str, Any]] = [
-            {"policyName": ""}, {"validationActions": []}, {"validationActions": ["Deny", "Warn"]},
-            {"validationActions": ["Audit", "Audit"]}, {"validationActions": ["deny"]}, {"paramRef": {"name": "x"}},
-            {"paramRef": {"parameterNotFoundAction": "Deny"}}, {"matchResources": {"matchPolicy": "Some"}}, {"mode": "new"},
-            {"matchResources": {"namespaceSelector": {"matchLabels": []}}},
-            {"paramRef": {"name": "x", "selector": {}, "parameterNotFoundAction": "Deny"}},
+        some = {"matchPolicy": "Some"}
+        wrong: list[tuple[dict[str, Any], str]] = [
+            ({"mode": "new"}, "spec"),
+            ({"policyName": ""}, "spec.policyName"),
+            ({"validationActions": []}, "spec.validationActions"),
+            ({"validationActions": ["Deny", "Warn"]}, "spec.validationActions"),
+            ({"validationActions": ["Audit", "Audit"]}, "spec.validationActions"),
+            ({"validationActions": ["deny"]}, "spec.validationActions"),
+            ({"matchResources": some}, "spec.matchResources"),
+            ({"matchResources": {"namespaceSelector": {"matchLabels": []}}}, "spec.matchResources"),
+            ({"paramRef": {"name": "x"}}, "spec.paramRef"),
+            ({"paramRef": {"parameterNotFoundAction": "Deny"}}, "spec.paramRef"),
+            ({"paramRef": {"name": "x", "selector": {}, "parameterNotFoundAction": "Deny"}}, "spec.paramRef"),
+            # the first of several
+            ({"mode": "new", "policyName": ""}, "spec"),
+            ({"policyName": "", "validationActions": []}, "spec.policyName"),
+            ({"validationActions": [], "matchResources": some}, "spec.validationActions"),
+            ({"matchResources": some, "paramRef": {}}, "spec.matchResources"),
         ]
-        for more in wrong:
+        for more, part in wrong:
             with self.subTest(more):
-                self.assertEqual(self.of_items(binding("b", "none", **more)), "C5 b")
+                self.assertEqual(self.of_items(binding("b", "none", **more)), f"C5 b: {part}")
 
     def test_policies(self) -> None:
         unbound = policy("q", rules=[])

@@ -33,11 +33,8 @@ CAUSES = {
     "C5": "an API server does not store this binding",
     "C6": "an API server does not store this policy",
 }
-# by such a code the fields of the specification that may be the cause, each with a value that is stored, or none
-REPAIRS: dict[str, dict[str, Any]] = {
-    "C5": {"policyName": "p", "paramRef": None, "matchResources": None, "validationActions": WARNS},
-    "C6": {"matchConstraints": {"resourceRules": [EVERYTHING]}, "paramKind": None},
-}
+# the fields of a policy's specification that may be the cause, each with a value that is stored, or none
+REPAIRS: dict[str, Any] = {"matchConstraints": {"resourceRules": [EVERYTHING]}, "paramKind": None}
 
 
 class Deciding:
@@ -65,23 +62,24 @@ class Deciding:
 
     def fault(self, line: str) -> str:
         """Why the state is refused, with the place of the object that the line names."""
-        code, _, name = without_file(line, [self.file]).removeprefix(REFUSAL).partition(" ")
+        code, _, what = without_file(line, [self.file]).removeprefix(REFUSAL).partition(" ")
+        name, _, part = what.partition(": ")
         why = CAUSES.get(code, line)
         if code == "C2" and name.isdigit() and int(name) < len(self.state.things):
             thing = self.state.things[int(name)]
             return f"{thing.place}: {thing.title}: {why} ({code})"
         for thing in {"C5": self.state.bindings, "C6": self.state.policies}.get(code, ()):
             if thing.name == name:
-                return f"{thing.place}: {thing.title}: {why}: {self.cause(thing, code)} ({code})"
+                return f"{thing.place}: {thing.title}: {why}: {part or self.cause(thing)} ({code})"
         return f"{why} ({code})" if code in CAUSES else line
 
-    def cause(self, thing: Thing, code: str) -> str:
-        """The field without which a binding or a policy is stored, or all that may be, if it is not one alone."""
-        found = [key for key in REPAIRS[code] if self.is_stored(repaired(thing, key, REPAIRS[code][key]))]
-        return f"its {found[0]}" if len(found) == 1 else f"several of {', '.join(REPAIRS[code])}"
+    def cause(self, thing: Thing) -> str:
+        """The field without which a policy is stored, or all that may be, if it is not one alone."""
+        found = [key for key, value in REPAIRS.items() if self.is_stored(repaired(thing, key, value))]
+        return f"spec.{found[0]}" if len(found) == 1 else f"several of {', '.join(REPAIRS)}"
 
     def is_stored(self, thing: Thing) -> bool:
-        """Whether the gatekeeper takes a state in which a binding or a policy is changed so."""
+        """Whether the gatekeeper takes a state in which a policy is changed so."""
         kept = [one for one in self.state.things if key_of(one) != key_of(thing)]
         return not self.gate.started(State([*kept, thing]).written(self.folder / "repaired.json")).returncode
 

@@ -26,7 +26,7 @@ const THREE_ANSWERS: &str =
 
 /// The words, the status, standard output and standard error, on the lines above.
 #[rattlefmt::skip]
-const ROWS: [(&str, u8, &str, &str); 34] = [
+const ROWS: [(&str, u8, &str, &str); 35] = [
     (BOTH, 0, THREE_ANSWERS, "gatekeeper: policy p, bindings b\ngatekeeper: policy q, bindings c\n"),
     ("gatekeeper --cluster policies", 0, NOTHING_BOUND, ""),
     ("gatekeeper --cluster none", 3, "", "celbpf: C1 none\n"),
@@ -35,7 +35,8 @@ const ROWS: [(&str, u8, &str, &str); 34] = [
     ("gatekeeper --cluster no-item", 3, "", "celbpf: C2 1\n"),
     ("gatekeeper --cluster double", 3, "", "celbpf: C3 prod\n"),
     ("gatekeeper --cluster no-namespace", 3, "", "celbpf: C4\n"),
-    ("gatekeeper --cluster no-binding", 3, "", "celbpf: C5 b\n"),
+    ("gatekeeper --cluster no-binding", 3, "", "celbpf: C5 b: spec.policyName\n"),
+    ("gatekeeper --cluster no-actions", 3, "", "celbpf: C5 b: spec.validationActions\n"),
     ("gatekeeper --cluster no-constraints", 3, "", "celbpf: C6 p\n"),
     ("gatekeeper --cluster no-validations", 3, "", "celbpf: C7 p K4\n"),
     ("gatekeeper --cluster condition", 0, CONDITION_ANSWERS, "gatekeeper: policy p, bindings b\n"),

@@ -54,17 +54,17 @@ def read_actions(spec: Any, refusal: str) -> list[Any]:
 
 
 def read(item: dict[str, Any]) -> Binding:
-    """A binding, or C5."""
-    refusal, spec = f"C5 {name_of(item)}", field(item, "spec")
+    """A binding, or C5 with its first invalid part."""
+    refusal, spec = f"C5 {name_of(item)}: spec", field(item, "spec")
     only(spec, BINDING_KEYS, refusal)
-    policy = text(spec, "policyName", refusal)
-    demand(policy != "", refusal)
+    policy = text(spec, "policyName", f"{refusal}.policyName")
+    demand(policy != "", f"{refusal}.policyName")
     return Binding(
         name_of(item),
         policy,
-        read_actions(spec, refusal),
-        matching.read(field(spec, "matchResources"), refusal, False),
-        read_params(field(spec, "paramRef"), refusal),
+        read_actions(spec, f"{refusal}.validationActions"),
+        matching.read(field(spec, "matchResources"), f"{refusal}.matchResources", False),
+        read_params(field(spec, "paramRef"), f"{refusal}.paramRef"),
     )
 
 

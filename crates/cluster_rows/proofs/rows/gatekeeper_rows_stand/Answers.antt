@@ -77,6 +77,7 @@ unfolding documents_on_literals digits document_of review_tree response_text ref
 returns-clause-named c = record {
   duplicate = λ name. refl;
   binding = λ name. refl;
+  binding_of_no_policy = λ name. refl;
   policy = λ name. refl;
   no_list = λ name. refl;
   no_kind = λ name. refl;

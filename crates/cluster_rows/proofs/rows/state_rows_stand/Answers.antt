@@ -32,6 +32,7 @@ unfolding lists_on_literals
 returns-clause-named c = record {
   duplicate = λ name. refl;
   binding = λ name. refl;
+  other_part = λ name e. cc;
   policy = λ name. refl;
 }
 

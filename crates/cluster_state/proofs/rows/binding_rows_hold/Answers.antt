@@ -19,4 +19,16 @@ returns c = record {
   name_and_selector = refl;
   neither = refl;
   no_action_of_absence = refl;
+  no_specification = refl;
+  list_as_specification = refl;
+  other_policy_of_matches = refl;
+  actions_before_matches = refl;
+  matches_before_params = refl;
+  key_before_policy = refl;
+  none = refl;
+  specification = refl;
+  policy_name = refl;
+  actions = refl;
+  resources = refl;
+  param_ref = refl;
 }

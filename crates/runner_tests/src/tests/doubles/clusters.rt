@@ -28,6 +28,11 @@ const NO_BINDING: &str =
     r#"{"apiVersion":"v1","kind":"List","items":[{"apiVersion":"v1","kind":"Namespace","metadata":{"name":"prod"}},
 {"apiVersion":"admissionregistration.k8s.io/v1","kind":"ValidatingAdmissionPolicyBinding","metadata":{"name":"b"},"spec":{"validationActions":["Deny"]}}]}"#;
 
+/// A binding without actions.
+const NO_ACTIONS: &str =
+    r#"{"apiVersion":"v1","kind":"List","items":[{"apiVersion":"v1","kind":"Namespace","metadata":{"name":"prod"}},
+{"apiVersion":"admissionregistration.k8s.io/v1","kind":"ValidatingAdmissionPolicyBinding","metadata":{"name":"b"},"spec":{"policyName":"p","validationActions":[]}}]}"#;
+
 /// A policy without constraints, and its binding.
 const NO_CONSTRAINTS: &str =
     r#"{"apiVersion":"v1","kind":"List","items":[{"apiVersion":"v1","kind":"Namespace","metadata":{"name":"prod"}},
@@ -77,6 +82,7 @@ impl Files for Clusters {
             "double" => DOUBLE,
             "no-namespace" => NO_NAMESPACE,
             "no-binding" => NO_BINDING,
+            "no-actions" => NO_ACTIONS,
             "no-constraints" => NO_CONSTRAINTS,
             "no-validations" => NO_VALIDATIONS,
             "condition" => CONDITION,
