@@ -1,6 +1,7 @@
 -- Definitions of wide_translation: the list of their modules.
 pub mod Names
 pub mod Forms
+pub mod Built
 pub mod Carried
 pub mod Scope
 pub mod Parts

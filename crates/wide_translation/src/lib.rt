@@ -2,6 +2,7 @@
 #![tactic(auto)]
 
 mod build;
+mod built;
 mod calls;
 mod carried;
 mod conversions;
