@@ -8,9 +8,11 @@ ghost use Rattle.wide_translation.specs.Declarations.{scope_in};
 ghost use Rattle.wide_translation.specs.Forms as forms;
 ghost use Rattle.wide_translation.specs.Names as names;
 
+use crate::built;
 use crate::names::{
     HELD, NAMESPACE, Names, PARAMS, PARAMS_FIELD, VARIABLES, is_condition, is_wrapped,
 };
+use crate::together::{both, three};
 use cel_macros::Macro;
 use cel_reader::{BinaryOperator, Expr, Literal, UnaryOperator};
 use std::alloc::{AllocError, Global};
@@ -47,8 +49,8 @@ pub(crate) fn held(alloc: Global) -> Result<Expr, AllocError>
 pub(crate) fn select(alloc: Global, of: Expr, field: &str) -> Result<Expr, AllocError>
     ensures { IfOk result (λ e. view e ≡ node.select (view of) field.now) }
 {
-    let copy = String::from_str(alloc, field)?;
-    Ok(Expr::Select(boxed(alloc, of)?, copy))
+    let (of, field) = both(boxed(alloc, of), String::from_str(alloc, field))?;
+    Ok(Expr::Select(of, field))
 }
 
 /// A root in the scope of these names; in match conditions `namespaceObject` is null.
@@ -73,8 +75,7 @@ fn placed(alloc: Global, given: &str, wrapped: bool) -> Result<Expr, AllocError>
     ensures { IfOk result (λ e. view e ≡ forms.placed_tree wrapped given.now) }
 {
     if wrapped && PARAMS == given {
-        let of = name(alloc, PARAMS)?;
-        return select(alloc, of, PARAMS_FIELD);
+        return built::select(alloc, name(alloc, PARAMS), PARAMS_FIELD);
     }
     name(alloc, given)
 }
@@ -83,15 +84,15 @@ fn placed(alloc: Global, given: &str, wrapped: bool) -> Result<Expr, AllocError>
 pub(crate) fn variable(alloc: Global, field: &str) -> Result<Expr, AllocError>
     ensures { IfOk result (λ e. view e ≡ forms.variable_tree field.now) }
 {
-    let of = name(alloc, VARIABLES)?;
-    select(alloc, of, field)
+    built::select(alloc, name(alloc, VARIABLES), field)
 }
 
 /// An item or entry of an expression.
 pub(crate) fn index(alloc: Global, of: Expr, key: Expr) -> Result<Expr, AllocError>
     ensures { IfOk result (λ e. view e ≡ node.index (view of) (view key)) }
 {
-    Ok(Expr::Index(boxed(alloc, of)?, boxed(alloc, key)?))
+    let (of, key) = both(boxed(alloc, of), boxed(alloc, key))?;
+    Ok(Expr::Index(of, key))
 }
 
 /// The first item of an expression.
@@ -117,28 +118,12 @@ fn single(alloc: Global, item: Expr) -> Result<Vec<Expr>, AllocError>
     more(Vec::new(alloc), item)
 }
 
-/// Two expressions.
-fn pair(alloc: Global, first: Expr, second: Expr) -> Result<Vec<Expr>, AllocError>
-    ensures { IfOk result (λ v. v.items ≡ first ∷ second ∷ []) }
-{
-    let items = single(alloc, first)?;
-    more(items, second)
-}
-
-/// Three expressions.
-fn triple(alloc: Global, first: Expr, second: Expr, third: Expr) -> Result<Vec<Expr>, AllocError>
-    ensures { IfOk result (λ v. v.items ≡ first ∷ second ∷ third ∷ []) }
-{
-    let items = pair(alloc, first, second)?;
-    more(items, third)
-}
-
 /// A call of a function.
 #[tactic(auto, using(cel_macros::proofs::Views::view_call))]
 pub(crate) fn call_of(alloc: Global, name: &str, arguments: Vec<Expr>) -> Result<Expr, AllocError>
     ensures { IfOk result (λ e. view e ≡ node.call name.now (trees (list.map view arguments.items))) }
 {
-    let callee = String::from_str(alloc, name)?;
+    let (callee, arguments) = both(String::from_str(alloc, name), Ok(arguments))?;
     Ok(Expr::Call(callee, arguments))
 }
 
@@ -154,8 +139,7 @@ pub(crate) fn call(alloc: Global, name: &str, argument: Expr) -> Result<Expr, Al
 pub(crate) fn has(alloc: Global, of: Expr, field: &str) -> Result<Expr, AllocError>
     ensures { IfOk result (λ e. view e ≡ forms.has_tree (view of) field.now) }
 {
-    let selection = select(alloc, of, field)?;
-    call(alloc, "has", selection)
+    built::has(alloc, Ok(of), field)
 }
 
 /// A call of a method.
@@ -168,8 +152,12 @@ pub(crate) fn method_of(
 ) -> Result<Expr, AllocError>
     ensures { IfOk result (λ e. view e ≡ node.method (view of) name.now (trees (list.map view arguments.items))) }
 {
-    let callee = String::from_str(alloc, name)?;
-    Ok(Expr::Method(boxed(alloc, of)?, callee, arguments))
+    let (of, callee, arguments) = three(
+        boxed(alloc, of),
+        String::from_str(alloc, name),
+        Ok(arguments),
+    )?;
+    Ok(Expr::Method(of, callee, arguments))
 }
 
 /// A call of a method without arguments.
@@ -188,8 +176,7 @@ pub(crate) fn method_with(
 ) -> Result<Expr, AllocError>
     ensures { IfOk result (λ e. view e ≡ node.method (view of) name.now (node.more_trees (view argument) node.no_trees)) }
 {
-    let arguments = single(alloc, argument)?;
-    method_of(alloc, of, name, arguments)
+    built::method_of(alloc, Ok(of), name, single(alloc, argument))
 }
 
 /// An operator before an operand.
@@ -212,7 +199,8 @@ pub(crate) fn binary(
 ) -> Result<Expr, AllocError>
     ensures { IfOk result (λ e. view e ≡ node.binary operator (view left) (view right)) }
 {
-    Ok(Expr::Binary(operator, boxed(alloc, left)?, boxed(alloc, right)?))
+    let (left, right) = both(boxed(alloc, left), boxed(alloc, right))?;
+    Ok(Expr::Binary(operator, left, right))
 }
 
 /// A conditional.
@@ -224,11 +212,8 @@ pub(crate) fn ternary(
 ) -> Result<Expr, AllocError>
     ensures { IfOk result (λ e. view e ≡ node.ternary (view condition) (view yes) (view no)) }
 {
-    Ok(Expr::Ternary(
-        boxed(alloc, condition)?,
-        boxed(alloc, yes)?,
-        boxed(alloc, no)?,
-    ))
+    let (condition, yes, no) = three(boxed(alloc, condition), boxed(alloc, yes), boxed(alloc, no))?;
+    Ok(Expr::Ternary(condition, yes, no))
 }
 
 /// An empty list literal.
@@ -270,9 +255,8 @@ fn macro_named(
 ) -> Result<Expr, AllocError>
     ensures { IfOk result (λ e. view e ≡ node.method (view range) name.now (node.more_trees (node.name item.now) (node.more_trees (view part) node.no_trees))) }
 {
-    let iteration_name = self::name(alloc, item)?;
-    let arguments = pair(alloc, iteration_name, part)?;
-    method_of(alloc, range, name, arguments)
+    let arguments = built::pair(alloc, self::name(alloc, item), Ok(part));
+    built::method_of(alloc, Ok(range), name, arguments)
 }
 
 /// A macro over a range.
@@ -304,18 +288,20 @@ pub(crate) fn filter_map(
 ) -> Result<Expr, AllocError>
     ensures { IfOk result (λ e. view e ≡ forms.filter_map_tree item.now (view range) (view predicate) (view transform)) }
 {
-    let iteration_name = name(alloc, item)?;
-    let arguments = triple(alloc, iteration_name, predicate, transform)?;
-    method_of(alloc, range, "map", arguments)
+    let arguments = built::pair(alloc, name(alloc, item), Ok(predicate));
+    built::method_of(
+        alloc,
+        Ok(range),
+        "map",
+        built::more(arguments, Ok(transform)),
+    )
 }
 
 /// An expression with a name for the value of another.
 pub(crate) fn bound_to(alloc: Global, name: &str, of: Expr, body: Expr) -> Result<Expr, AllocError>
     ensures { IfOk result (λ e. view e ≡ forms.let_tree name.now (view of) (view body)) }
 {
-    let items = one(alloc, of)?;
-    let mapped = fold(alloc, Macro::Map, name, items, body)?;
-    first(alloc, mapped)
+    built::bound_to(alloc, name, Ok(of), Ok(body))
 }
 
 /// An expression with the name that the translation binds for the value of another.
@@ -329,18 +315,14 @@ pub(crate) fn bound(alloc: Global, of: Expr, body: Expr) -> Result<Expr, AllocEr
 pub(crate) fn guarded(alloc: Global, guard: Expr, value: Expr) -> Result<Expr, AllocError>
     ensures { IfOk result (λ e. view e ≡ forms.guarded_tree (view guard) (view value)) }
 {
-    let items = one(alloc, value)?;
-    ternary(alloc, guard, items, empty(alloc))
+    built::guarded(alloc, Ok(guard), Ok(value))
 }
 
 /// What a list is for the item of another, or the empty list.
 pub(crate) fn flat(alloc: Global, item: &str, of: Expr, body: Expr) -> Result<Expr, AllocError>
     ensures { IfOk result (λ e. view e ≡ forms.flat_tree item.now (view of) (view body)) }
 {
-    let mapped = fold(alloc, Macro::Map, item, of, body)?;
-    let last = one(alloc, empty(alloc))?;
-    let lists = binary(alloc, BinaryOperator::Add, mapped, last)?;
-    first(alloc, lists)
+    built::flat(alloc, item, Ok(of), Ok(body))
 }
 
 /// Whether an expression is cheap to write again.

@@ -26,6 +26,7 @@ mod place;
 mod presence;
 mod ranges;
 mod scope;
+mod together;
 mod translated;
 mod translating;
 mod translation_error;
