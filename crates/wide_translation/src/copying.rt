@@ -5,7 +5,7 @@ ghost use Rattle.std.specs.Prelude as list;
 ghost use Rattle.cel_reader.specs.Tree as node;
 ghost use Rattle.cel_reader.specs.Tree.{view, entry_view, literal_view};
 
-use crate::build;
+use crate::{build, built};
 use cel_reader::{Expr, Literal};
 use std::alloc::{AllocError, Global};
 
@@ -29,12 +29,11 @@ pub(crate) fn literal(alloc: Global, literal: &Literal) -> Result<Expr, AllocErr
 fn copies(alloc: Global, items: &[Expr]) -> Result<Vec<Expr>, AllocError>
     ensures { IfOk result (λ v. list.map view v.items ≡ list.map view items.now) }
 {
-    let mut out = Vec::new(alloc);
+    let mut out = Ok(Vec::new(alloc));
     for item in items {
-        let next = copy(alloc, item)?;
-        out.push(next)?;
+        out = built::more(out, copy(alloc, item));
     }
-    Ok(out)
+    out
 }
 
 /// Copies of keys and values.
@@ -45,13 +44,11 @@ pub(crate) fn entry_copies(
 ) -> Result<Vec<(Expr, Expr)>, AllocError>
     ensures { IfOk result (λ v. list.map entry_view v.items ≡ list.map entry_view pairs.now) }
 {
-    let mut out = Vec::new(alloc);
+    let mut out = Ok(Vec::new(alloc));
     for (key, value) in pairs {
-        let first = copy(alloc, key)?;
-        let second = copy(alloc, value)?;
-        out.push((first, second))?;
+        out = built::entry_more(out, copy(alloc, key), copy(alloc, value));
     }
-    Ok(out)
+    out
 }
 
 /// A copy of an expression.
@@ -63,46 +60,29 @@ pub(crate) fn copy(alloc: Global, e: &Expr) -> Result<Expr, AllocError>
     match e {
         Expr::Literal(given) => literal(alloc, given),
         Expr::Name(name) => build::name(alloc, name.as_str()),
-        Expr::Select(of, field) => {
-            let inner = copy(alloc, of)?;
-            build::select(alloc, inner, field.as_str())
-        }
-        Expr::Index(of, at) => {
-            let first = copy(alloc, of)?;
-            let second = copy(alloc, at)?;
-            build::index(alloc, first, second)
-        }
+        Expr::Select(of, field) => built::select(alloc, copy(alloc, of), field.as_str()),
+        Expr::Index(of, at) => built::index(alloc, copy(alloc, of), copy(alloc, at)),
         Expr::Call(name, arguments) => {
-            let parts = copies(alloc, arguments.as_slice())?;
-            build::call_of(alloc, name.as_str(), parts)
+            let parts = copies(alloc, arguments.as_slice());
+            built::call_of(alloc, name.as_str(), parts)
         }
         Expr::Method(of, name, arguments) => {
-            let inner = copy(alloc, of)?;
-            let parts = copies(alloc, arguments.as_slice())?;
-            build::method_of(alloc, inner, name.as_str(), parts)
+            let parts = copies(alloc, arguments.as_slice());
+            built::method_of(alloc, copy(alloc, of), name.as_str(), parts)
         }
-        Expr::Unary(operator, operand) => {
-            let inner = copy(alloc, operand)?;
-            build::unary(alloc, *operator, inner)
-        }
+        Expr::Unary(operator, operand) => built::unary(alloc, *operator, copy(alloc, operand)),
         Expr::Binary(operator, left, right) => {
-            let first = copy(alloc, left)?;
-            let second = copy(alloc, right)?;
-            build::binary(alloc, *operator, first, second)
+            built::binary(alloc, *operator, copy(alloc, left), copy(alloc, right))
         }
         Expr::Ternary(condition, yes, no) => {
-            let test = copy(alloc, condition)?;
-            let first = copy(alloc, yes)?;
-            let second = copy(alloc, no)?;
-            build::ternary(alloc, test, first, second)
+            built::ternary(
+                alloc,
+                copy(alloc, condition),
+                copy(alloc, yes),
+                copy(alloc, no),
+            )
         }
-        Expr::List(items) => {
-            let parts = copies(alloc, items.as_slice())?;
-            Ok(build::list(parts))
-        }
-        Expr::Map(pairs) => {
-            let parts = entry_copies(alloc, pairs.as_slice())?;
-            Ok(build::map(parts))
-        }
+        Expr::List(items) => built::list(copies(alloc, items.as_slice())),
+        Expr::Map(pairs) => built::map(entry_copies(alloc, pairs.as_slice())),
     }
 }
