@@ -7,7 +7,7 @@ use Rattle.cel_reader.specs.declared.operator.BinaryOperator.{TheVariants.NotEqu
 use Rattle.wide_reader.specs.Tree as wide
 use Rattle.wide_reader.specs.Tree.{Wide}
 use Rattle.wide_translation.specs.Carried.{Carried, Translation}
-use Rattle.wide_translation.specs.Pairs.{PairUse, is_map_kind, pair_range, with_range}
+use Rattle.wide_translation.specs.Pairs.{PairUse, is_map_kind, pair_range, with_range, map_range_tree, any_range_tree}
 use Rattle.wide_translation.specs.Parts.{on_plain}
 use Rattle.wide_translation.specs.Forms.{empty_tree, one_tree, call_tree, macro_tree, held, first_tree, is_empty_tree}
 use Rattle.wide_translation.specs.Names.{index_name, second_name}
@@ -36,6 +36,11 @@ compared_uint _ a = None
 -- what follows from the range of a macro with two names over an operand
 abbrev pub ranged : Bool → PairUse → Carried → (Tree → Translation) → Translation
 ranged b u c f = on_plain c (λ k a. with_range (pair_range b u (is_map_kind k) a) f)
+
+-- the range of a macro with two names for a map, or for a list or a map
+abbrev pub repeated_range_tree : PairUse → Bool → Tree → Tree
+repeated_range_tree u true a = map_range_tree u a
+repeated_range_tree u false a = any_range_tree u a
 
 -- whether an operator is an equality
 abbrev pub is_equality : BinaryOperator → Bool

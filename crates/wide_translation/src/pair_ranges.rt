@@ -2,18 +2,23 @@
 
 ghost use Rattle.std.specs.Prelude.{◌≡◌, IfOk};
 ghost use Rattle.cel_reader.specs.Tree.{view};
+ghost use Rattle.cel_macros.specs.declared.macros.Macro.TheVariants as plain_macro;
+ghost use Rattle.wide_translation.specs.Built.{FormOfTwo};
 ghost use Rattle.wide_translation.specs.Declarations.{IsPairRange, ReturnsRange, ReturnsTree, carried_view, scope_in, use_view};
-ghost use Rattle.wide_translation.specs.Layers.{ranged};
+ghost use Rattle.wide_translation.specs.Forms as forms;
+ghost use Rattle.wide_translation.specs.Layers.{ranged, repeated_range_tree};
+ghost use Rattle.wide_translation.specs.Names.{index_name};
 ghost use Rattle.wide_translation.specs.Pairs as specs;
 ghost use Rattle.wide_translation.specs.Parts.{once};
 
-use crate::build;
+use crate::built::Built;
 use crate::carried::{Carried, value_of};
 use crate::copying::copy;
 use crate::names::{INDEX, Names, PARAMS, is_wrapped};
 use crate::pair_names::PairNames;
 use crate::pair_use::PairUse;
 use crate::translation_error::TranslationError;
+use crate::{build, built};
 use cel_macros::Macro;
 use cel_reader::{BinaryOperator, Expr};
 use std::alloc::{AllocError, Global};
@@ -26,107 +31,96 @@ fn here(alloc: Global) -> Result<Expr, AllocError>
     build::name(alloc, INDEX)
 }
 
+/// What each index or key of a range is mapped to.
+fn mapped(alloc: Global, range: Built, part: Built) -> Built
+    ensures { FormOfTwo (forms.macro_tree plain_macro.Map index_name) range part result }
+{
+    built::fold(alloc, Macro::Map, INDEX, range, part)
+}
+
 /// The item at an index or the value at a key.
 fn at_here(alloc: Global, of: &Expr) -> Result<Expr, AllocError>
     ensures { IfOk result (λ e. view e ≡ specs.at_tree (view of.now)) }
 {
-    let operand = copy(alloc, of)?;
-    let at = here(alloc)?;
-    build::index(alloc, operand, at)
+    built::index(alloc, copy(alloc, of), here(alloc))
 }
 
 /// The values of a map.
 fn values(alloc: Global, of: &Expr) -> Result<Expr, AllocError>
     ensures { IfOk result (λ e. view e ≡ specs.values_tree (view of.now)) }
 {
-    let range = copy(alloc, of)?;
-    let value = at_here(alloc, of)?;
-    build::fold(alloc, Macro::Map, INDEX, range, value)
+    mapped(alloc, copy(alloc, of), at_here(alloc, of))
 }
 
 /// An index or a key, and what an expression has there.
 fn pair(alloc: Global, of: &Expr) -> Result<Expr, AllocError>
     ensures { IfOk result (λ e. view e ≡ specs.pair_tree (view of.now)) }
 {
-    let first = here(alloc)?;
-    let second = at_here(alloc, of)?;
-    let mut items = Vec::new(alloc);
-    items.push(first)?;
-    items.push(second)?;
-    Ok(build::list(items))
+    built::list(built::pair(alloc, here(alloc), at_here(alloc, of)))
 }
 
 /// The keys of a map, each with its value.
 fn pairs(alloc: Global, of: &Expr) -> Result<Expr, AllocError>
     ensures { IfOk result (λ e. view e ≡ specs.pairs_tree (view of.now)) }
 {
-    let range = copy(alloc, of)?;
-    let item = pair(alloc, of)?;
-    build::fold(alloc, Macro::Map, INDEX, range, item)
+    mapped(alloc, copy(alloc, of), pair(alloc, of))
 }
 
 /// Whether a list or a map is a list.
 fn is_list(alloc: Global, of: &Expr) -> Result<Expr, AllocError>
     ensures { IfOk result (λ e. view e ≡ specs.is_list_tree (view of.now)) }
 {
-    let range = copy(alloc, of)?;
-    let item = here(alloc)?;
-    let range_items = build::fold(alloc, Macro::Map, INDEX, range, item)?;
-    let operand = copy(alloc, of)?;
-    build::binary(alloc, BinaryOperator::Equal, range_items, operand)
+    let range_items = mapped(alloc, copy(alloc, of), here(alloc));
+    built::binary(alloc, BinaryOperator::Equal, range_items, copy(alloc, of))
 }
 
 /// The items of a list, or the values of a map.
 fn items(alloc: Global, of: &Expr) -> Result<Expr, AllocError>
     ensures { IfOk result (λ e. view e ≡ specs.items_tree (view of.now)) }
 {
-    let test = is_list(alloc, of)?;
-    let list = copy(alloc, of)?;
-    let map_values = values(alloc, of)?;
-    build::ternary(alloc, test, list, map_values)
+    built::ternary(
+        alloc,
+        is_list(alloc, of),
+        copy(alloc, of),
+        values(alloc, of),
+    )
 }
 
 /// The table of the ints from 0.
 fn table(alloc: Global) -> Result<Expr, AllocError>
     ensures { IfOk result (λ e. view e ≡ specs.table_tree) }
 {
-    let params = build::name(alloc, PARAMS)?;
-    let tables = build::select(alloc, params, "t")?;
-    build::select(alloc, tables, "n")
+    let tables = built::select(alloc, build::name(alloc, PARAMS), "t");
+    built::select(alloc, tables, "n")
 }
 
 /// The indices of a list.
 fn indices(alloc: Global, of: &Expr) -> Result<Expr, AllocError>
     ensures { IfOk result (λ e. view e ≡ specs.indices_tree (view of.now)) }
 {
-    let range = table(alloc)?;
-    let index = here(alloc)?;
-    let operand = copy(alloc, of)?;
-    let size = build::call(alloc, "size", operand)?;
-    let is_index = build::binary(alloc, BinaryOperator::Less, index, size)?;
-    build::fold(alloc, Macro::Filter, INDEX, range, is_index)
+    let size = built::call(alloc, "size", copy(alloc, of));
+    let is_index = built::binary(alloc, BinaryOperator::Less, here(alloc), size);
+    built::fold(alloc, Macro::Filter, INDEX, table(alloc), is_index)
 }
 
 /// The indices of a list, or the keys of a map.
 fn keys(alloc: Global, of: &Expr) -> Result<Expr, AllocError>
     ensures { IfOk result (λ e. view e ≡ specs.keys_tree (view of.now)) }
 {
-    let test = is_list(alloc, of)?;
-    let list_indices = indices(alloc, of)?;
-    let map = copy(alloc, of)?;
-    build::ternary(alloc, test, list_indices, map)
+    built::ternary(
+        alloc,
+        is_list(alloc, of),
+        indices(alloc, of),
+        copy(alloc, of),
+    )
 }
 
 /// The indices of a list or the keys of a map, each with its item or value.
 fn any_pairs(alloc: Global, of: &Expr) -> Result<Expr, AllocError>
     ensures { IfOk result (λ e. view e ≡ specs.any_pairs_tree (view of.now)) }
 {
-    let test = is_list(alloc, of)?;
-    let range = indices(alloc, of)?;
-    let item = pair(alloc, of)?;
-    let list_pairs = build::fold(alloc, Macro::Map, INDEX, range, item)?;
-    let map_pairs = pairs(alloc, of)?;
-    build::ternary(alloc, test, list_pairs, map_pairs)
+    let list_pairs = mapped(alloc, indices(alloc, of), pair(alloc, of));
+    built::ternary(alloc, is_list(alloc, of), list_pairs, pairs(alloc, of))
 }
 
 /// The range of a macro for a map.
@@ -151,6 +145,24 @@ fn any_range(alloc: Global, used: PairUse, of: &Expr) -> Result<Expr, AllocError
     }
 }
 
+/// The range of a macro for a map, or for a list or a map.
+fn repeated_range(alloc: Global, used: PairUse, is_map: bool, of: &Expr) -> Built
+    ensures { IfOk result (λ e. view e ≡ repeated_range_tree (use_view used) is_map (view of.now)) }
+{
+    if is_map {
+        return map_range(alloc, used, of);
+    }
+    any_range(alloc, used, of)
+}
+
+/// The same for the value that the translation's name denotes.
+fn held_range(alloc: Global, used: PairUse, is_map: bool) -> Built
+    ensures { IfOk result (λ e. view e ≡ repeated_range_tree (use_view used) is_map forms.held) }
+{
+    let held = build::held(alloc)?;
+    repeated_range(alloc, used, is_map, &held)
+}
+
 /// The range of a macro for a map, or for a list or a map. A map gives its keys by itself.
 fn written_range(alloc: Global, used: PairUse, is_map: bool, of: Expr) -> Result<Expr, AllocError>
     ensures { IfOk result (λ e. view e ≡ specs.range_tree (use_view used) is_map (view of)) }
@@ -159,18 +171,9 @@ fn written_range(alloc: Global, used: PairUse, is_map: bool, of: Expr) -> Result
         return Ok(of);
     }
     if build::is_simple(&of) {
-        if is_map {
-            return map_range(alloc, used, &of);
-        }
-        return any_range(alloc, used, &of);
+        return repeated_range(alloc, used, is_map, &of);
     }
-    let held = build::held(alloc)?;
-    if is_map {
-        let body = map_range(alloc, used, &held)?;
-        return build::bound(alloc, of, body);
-    }
-    let body = any_range(alloc, used, &held)?;
-    build::bound(alloc, of, body)
+    built::bound(alloc, Ok(of), held_range(alloc, used, is_map))
 }
 
 /// Whether values of this kind are maps.
