@@ -15,7 +15,7 @@ ghost use Rattle.cel_reader.specs.Tree as node;
 
 use crate::carried::{Carried, list_of, value_of};
 use crate::translation_error::TranslationError;
-use crate::{build, conversions, list_functions};
+use crate::{build, built, conversions, list_functions};
 use cel_macros::TextTest;
 use cel_reader::{BinaryOperator, Expr};
 use std::alloc::{AllocError, Global};
@@ -188,33 +188,29 @@ fn value(alloc: Global, of: Carried) -> Result<Carried, TranslationError>
 fn held_is_empty(alloc: Global) -> Result<Expr, AllocError>
     ensures { IfOk result (λ e. view e ≡ forms.is_empty_tree forms.held) }
 {
-    let held = build::held(alloc)?;
-    build::binary(alloc, BinaryOperator::Equal, held, build::empty(alloc))
+    let none = Ok(build::empty(alloc));
+    built::binary(alloc, BinaryOperator::Equal, build::held(alloc), none)
 }
 
 /// The first item of the list that the translation's name denotes.
 fn held_first(alloc: Global) -> Result<Expr, AllocError>
     ensures { IfOk result (λ e. view e ≡ forms.first_tree forms.held) }
 {
-    let held = build::held(alloc)?;
-    build::first(alloc, held)
+    built::first(alloc, build::held(alloc))
 }
 
 /// The item of the list that the translation's name denotes, or a default if the list is empty.
 fn held_or(alloc: Global, default: Expr) -> Result<Expr, AllocError>
     ensures { IfOk result (λ e. view e ≡ held_or_tree (view default)) }
 {
-    let is_empty = held_is_empty(alloc)?;
-    let item = held_first(alloc)?;
-    build::ternary(alloc, is_empty, default, item)
+    built::ternary(alloc, held_is_empty(alloc), Ok(default), held_first(alloc))
 }
 
 /// The item of a list, or a default if the list is empty.
 fn item_or(alloc: Global, list: Expr, default: Expr) -> Result<Expr, AllocError>
     ensures { IfOk result (λ e. view e ≡ forms.let_tree names.held_name (view list) (held_or_tree (view default))) }
 {
-    let body = held_or(alloc, default)?;
-    build::bound(alloc, list, body)
+    built::bound(alloc, Ok(list), held_or(alloc, default))
 }
 
 /// The value of an optional value, or a default.
@@ -257,9 +253,7 @@ pub(crate) fn or_value(
 fn held_or_list(alloc: Global, other: Expr) -> Result<Expr, AllocError>
     ensures { IfOk result (λ e. view e ≡ held_or_list_tree (view other)) }
 {
-    let is_empty = held_is_empty(alloc)?;
-    let again = build::held(alloc)?;
-    build::ternary(alloc, is_empty, other, again)
+    built::ternary(alloc, held_is_empty(alloc), Ok(other), build::held(alloc))
 }
 
 /// An optional value as a list; a value as it is.
@@ -279,16 +273,14 @@ pub(crate) fn as_list(alloc: Global, of: Carried) -> Result<Carried, AllocError>
 fn guarded_list_or(alloc: Global, guard: Expr, value: Expr, other: Expr) -> Result<Expr, AllocError>
     ensures { IfOk result (λ e. view e ≡ node.ternary (view guard) (forms.one_tree (view value)) (view other)) }
 {
-    let first = build::one(alloc, value)?;
-    build::ternary(alloc, guard, first, other)
+    built::ternary(alloc, Ok(guard), build::one(alloc, value), Ok(other))
 }
 
 /// A list, or another if it is empty.
 fn list_or(alloc: Global, list: Expr, other: Expr) -> Result<Expr, AllocError>
     ensures { IfOk result (λ e. view e ≡ forms.let_tree names.held_name (view list) (held_or_list_tree (view other))) }
 {
-    let body = held_or_list(alloc, other)?;
-    build::bound(alloc, list, body)
+    built::bound(alloc, Ok(list), held_or_list(alloc, other))
 }
 
 /// A value if its guard holds, or another optional value.

@@ -19,7 +19,7 @@ use crate::carried::Carried;
 use crate::names::{Names, VARIABLES, is_root, variable_kind};
 use crate::place::Place;
 use crate::translation_error::TranslationError;
-use crate::{build, copying};
+use crate::{build, built, copying};
 use cel_reader::{Expr, Literal};
 use std::alloc::Global;
 use wide_kinds::{Kind, ValueKind, literal_kind};
@@ -55,13 +55,12 @@ fn written(alloc: Global, name: &str, place: &Place) -> Result<Carried, Translat
             Ok(Carried::Plain(*kind, tree))
         }
         Place::Key(pair) => {
-            let of = build::name(alloc, pair.as_str())?;
-            let tree = build::first(alloc, of)?;
+            let tree = built::first(alloc, build::name(alloc, pair.as_str()))?;
             Ok(Carried::Plain(ValueKind::Dyn, tree))
         }
         Place::Value(pair) => {
-            let of = build::name(alloc, pair.as_str())?;
-            let tree = build::index(alloc, of, Expr::Literal(Literal::Int(1)))?;
+            let second = Ok(Expr::Literal(Literal::Int(1)));
+            let tree = built::index(alloc, build::name(alloc, pair.as_str()), second)?;
             Ok(Carried::Plain(ValueKind::Dyn, tree))
         }
         Place::Unused => Err(unknown(alloc, name)),

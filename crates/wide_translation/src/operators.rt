@@ -8,12 +8,13 @@ ghost use Rattle.wide_kinds.specs.declared.kind.ValueKind.TheVariants as kind;
 ghost use Rattle.wide_reader.specs.Tree as wide;
 ghost use Rattle.wide_translation.specs.Carried.{OptionalValue, UnsignedInt, listed, plain, refused, taken};
 ghost use Rattle.wide_translation.specs.Declarations.{ReturnsCarried, carried_view};
+ghost use Rattle.wide_translation.specs.Forms as forms;
 ghost use Rattle.wide_translation.specs.Layers as layers;
 ghost use Rattle.wide_translation.specs.Translated as specs;
 
-use crate::build;
 use crate::carried::{Carried, value_of};
 use crate::translation_error::TranslationError;
+use crate::{build, built};
 use cel_reader::{BinaryOperator, Expr, Literal, UnaryOperator};
 use std::alloc::{AllocError, Global};
 use wide_kinds::{ValueKind, binary_kind, joined_kind, unary_kind};
@@ -72,6 +73,20 @@ fn compared(
     Ok(Carried::Plain(ValueKind::Bool, tree))
 }
 
+/// A comparison of a list with that of a value if its guard holds.
+fn compared_guarded(
+    alloc: Global,
+    operator: BinaryOperator,
+    left: Expr,
+    right: (Expr, Expr),
+) -> Result<Carried, AllocError>
+    ensures { IfOk result (λ c. carried_view c ≡ plain kind.Bool (node.binary operator (view left) (forms.guarded_tree (view right.0) (view right.1)))) }
+{
+    let second = build::guarded(alloc, right.0, right.1);
+    let tree = built::binary(alloc, operator, Ok(left), second)?;
+    Ok(Carried::Plain(ValueKind::Bool, tree))
+}
+
 /// Equality of a list with that of an optional value.
 fn list_equality(
     alloc: Global,
@@ -84,11 +99,23 @@ fn list_equality(
     match right {
         Carried::Plain(_, _) => Err(TranslationError::OptionalValue),
         Carried::Guarded(_, guard, value) => {
-            let second = build::guarded(alloc, guard, value)?;
-            Ok(compared(alloc, operator, left, second)?)
+            Ok(compared_guarded(alloc, operator, left, (guard, value))?)
         }
         Carried::Listed(_, second) => Ok(compared(alloc, operator, left, second)?),
     }
+}
+
+/// Equality of a value if its guard holds, as a list, with the list of an optional value.
+fn guarded_equality(
+    alloc: Global,
+    operator: BinaryOperator,
+    left: (Expr, Expr),
+    right: Carried,
+) -> Result<Carried, TranslationError>
+    ensures { ReturnsCarried (specs.on_list OptionalValue (carried_view right) (λ k m. taken (plain kind.Bool (node.binary operator (forms.guarded_tree (view left.0) (view left.1)) m)))) result }
+{
+    let first = build::guarded(alloc, left.0, left.1)?;
+    list_equality(alloc, operator, first, right)
 }
 
 /// Equality of two values, or of two optional values.
@@ -108,8 +135,7 @@ fn equality(
             Ok(compared(alloc, operator, first, second)?)
         }
         Carried::Guarded(_, guard, value) => {
-            let first = build::guarded(alloc, guard, value)?;
-            list_equality(alloc, operator, first, right)
+            guarded_equality(alloc, operator, (guard, value), right)
         }
         Carried::Listed(_, first) => list_equality(alloc, operator, first, right),
     }
@@ -189,8 +215,8 @@ fn list_ternary(
     match no {
         Carried::Plain(_, _) => Err(TranslationError::OptionalValue),
         Carried::Guarded(other, guard, value) => {
-            let second = build::guarded(alloc, guard, value)?;
-            let tree = build::ternary(alloc, condition, first, second)?;
+            let second = build::guarded(alloc, guard, value);
+            let tree = built::ternary(alloc, Ok(condition), Ok(first), second)?;
             Ok(Carried::Listed(joined_kind(kind, other), tree))
         }
         Carried::Listed(other, second) => {
@@ -198,6 +224,20 @@ fn list_ternary(
             Ok(Carried::Listed(joined_kind(kind, other), tree))
         }
     }
+}
+
+/// A conditional whose branches are optional values, the first of them with a guard.
+fn guarded_ternary(
+    alloc: Global,
+    condition: Expr,
+    yes: (ValueKind, Expr, Expr),
+    no: Carried,
+) -> Result<Carried, TranslationError>
+    ensures { ReturnsCarried (specs.on_list OptionalValue (carried_view no) (λ j m. taken (listed (kinds.joined_kind yes.0 j) (node.ternary (view condition) (forms.guarded_tree (view yes.1) (view yes.2)) m)))) result }
+{
+    let (kind, guard, value) = yes;
+    let first = build::guarded(alloc, guard, value)?;
+    list_ternary(alloc, condition, (kind, first), no)
 }
 
 /// A conditional. Its branches are both values or both optional values.
@@ -218,8 +258,7 @@ pub(crate) fn ternary(
             Ok(Carried::Plain(joined_kind(kind, other), tree))
         }
         Carried::Guarded(kind, guard, value) => {
-            let first = build::guarded(alloc, guard, value)?;
-            list_ternary(alloc, condition, (kind, first), no)
+            guarded_ternary(alloc, condition, (kind, guard, value), no)
         }
         Carried::Listed(kind, first) => list_ternary(alloc, condition, (kind, first), no),
     }
