@@ -4,52 +4,45 @@ ghost use Rattle.std.specs.Prelude.{◌≡◌, [], ◌∷◌, ◌++◌, IfOk, co
 ghost use Rattle.cel_reader.specs.Tree as node;
 ghost use Rattle.cel_reader.specs.Tree.{view};
 ghost use Rattle.wide_meaning.specs.Functions.{false_texts, true_texts};
+ghost use Rattle.wide_translation.specs.Built.{FormOf, FormOfTwo};
 ghost use Rattle.wide_translation.specs.Forms as forms;
 ghost use Rattle.wide_translation.specs.Translated as specs;
 
 use crate::build;
+use crate::built::{self, Built};
 use crate::copying::copy;
 use cel_reader::{BinaryOperator, Expr, Literal};
 use std::alloc::{AllocError, Global};
 use wide_kinds::ValueKind;
 
-/// A choice between a text and another expression.
-fn chosen_text(alloc: Global, condition: Expr, text: &str, other: Expr) -> Result<Expr, AllocError>
-    ensures { IfOk result (λ e. view e ≡ node.ternary (view condition) (node.literal (node.text text.now)) (view other)) }
-{
-    let yes = build::text(alloc, text)?;
-    build::ternary(alloc, condition, yes, other)
-}
-
 /// Whether an expression is equal to a bool.
-fn is_bool(alloc: Global, of: &Expr, value: bool) -> Result<Expr, AllocError>
+fn is_bool(alloc: Global, of: &Expr, value: bool) -> Built
     ensures { IfOk result (λ e. view e ≡ forms.is_bool_tree (view of.now) value) }
 {
-    let operand = copy(alloc, of)?;
     let literal = Expr::Literal(Literal::Bool(value));
-    build::binary(alloc, BinaryOperator::Equal, operand, literal)
+    built::binary(alloc, BinaryOperator::Equal, copy(alloc, of), Ok(literal))
 }
 
 /// The text `false` if an expression is false, else the text of an int or of a text.
-fn false_or_text(alloc: Global, of: Expr) -> Result<Expr, AllocError>
+fn false_or_text(alloc: Global, of: Expr) -> Built
     ensures { IfOk result (λ e. view e ≡ node.ternary (forms.is_bool_tree (view of) false) (node.literal (node.text (codes "false"))) (forms.call_tree (codes "string") (view of))) }
 {
-    let is_false = is_bool(alloc, &of, false)?;
-    let text = build::call(alloc, "string", of)?;
-    chosen_text(alloc, is_false, "false", text)
+    let is_false = is_bool(alloc, &of, false);
+    let no = build::text(alloc, "false");
+    built::ternary(alloc, is_false, no, build::call(alloc, "string", of))
 }
 
 /// A value of any kind as a text.
-fn any_text(alloc: Global, of: Expr) -> Result<Expr, AllocError>
+fn any_text(alloc: Global, of: Expr) -> Built
     ensures { IfOk result (λ e. view e ≡ forms.text_tree (view of)) }
 {
-    let is_true = is_bool(alloc, &of, true)?;
-    let other = false_or_text(alloc, of)?;
-    chosen_text(alloc, is_true, "true", other)
+    let is_true = is_bool(alloc, &of, true);
+    let yes = build::text(alloc, "true");
+    built::ternary(alloc, is_true, yes, false_or_text(alloc, of))
 }
 
 /// The value that the translation's name denotes as a text.
-fn held_text(alloc: Global) -> Result<Expr, AllocError>
+fn held_text(alloc: Global) -> Built
     ensures { IfOk result (λ e. view e ≡ forms.text_tree forms.held) }
 {
     let held = build::held(alloc)?;
@@ -57,25 +50,24 @@ fn held_text(alloc: Global) -> Result<Expr, AllocError>
 }
 
 /// A value of any kind as a text, with the value written once.
-fn once_text(alloc: Global, of: Expr) -> Result<Expr, AllocError>
+fn once_text(alloc: Global, of: Expr) -> Built
     ensures { IfOk result (λ e. view e ≡ specs.once (view of) forms.text_tree) }
 {
     if build::is_simple(&of) {
         return any_text(alloc, of);
     }
-    let body = held_text(alloc)?;
-    build::bound(alloc, of, body)
+    built::bound(alloc, Ok(of), held_text(alloc))
 }
 
 /// A value of a kind as a text.
-pub(crate) fn string(alloc: Global, kind: ValueKind, of: Expr) -> Result<Expr, AllocError>
+pub(crate) fn string(alloc: Global, kind: ValueKind, of: Expr) -> Built
     ensures { IfOk result (λ e. view e ≡ specs.string_tree kind (view of)) }
 {
     match kind {
         ValueKind::Int | ValueKind::String => build::call(alloc, "string", of),
         ValueKind::Bool => {
-            let no = build::text(alloc, "false")?;
-            chosen_text(alloc, of, "true", no)
+            let yes = build::text(alloc, "true");
+            built::ternary(alloc, Ok(of), yes, build::text(alloc, "false"))
         }
         _ => once_text(alloc, of),
     }
@@ -90,7 +82,7 @@ fn with_text(alloc: Global, items: Vec<Expr>, text: &str) -> Result<Vec<Expr>, A
 }
 
 /// The texts that denote true.
-fn true_list(alloc: Global) -> Result<Expr, AllocError>
+fn true_list(alloc: Global) -> Built
     ensures { IfOk result (λ e. view e ≡ node.list (forms.text_trees true_texts)) }
 {
     let one = with_text(alloc, Vec::new(alloc), "1")?;
@@ -103,7 +95,7 @@ fn true_list(alloc: Global) -> Result<Expr, AllocError>
 }
 
 /// The texts that denote false.
-fn false_list(alloc: Global) -> Result<Expr, AllocError>
+fn false_list(alloc: Global) -> Built
     ensures { IfOk result (λ e. view e ≡ node.list (forms.text_trees false_texts)) }
 {
     let one = with_text(alloc, Vec::new(alloc), "0")?;
@@ -116,78 +108,71 @@ fn false_list(alloc: Global) -> Result<Expr, AllocError>
 }
 
 /// Whether an expression is an item of a list.
-fn is_among(alloc: Global, of: &Expr, list: Expr) -> Result<Expr, AllocError>
-    ensures { IfOk result (λ e. view e ≡ node.binary forms.membership (view of.now) (view list)) }
+fn is_among(alloc: Global, of: &Expr, list: Built) -> Built
+    ensures { FormOf (node.binary forms.membership (view of.now)) list result }
 {
-    let operand = copy(alloc, of)?;
-    build::binary(alloc, BinaryOperator::In, operand, list)
+    built::binary(alloc, BinaryOperator::In, copy(alloc, of), list)
 }
 
 /// Whether an expression is a text that denotes true.
-fn is_true_text(alloc: Global, of: &Expr) -> Result<Expr, AllocError>
+fn is_true_text(alloc: Global, of: &Expr) -> Built
     ensures { IfOk result (λ e. view e ≡ node.binary forms.membership (view of.now) (node.list (forms.text_trees true_texts))) }
 {
-    let texts = true_list(alloc)?;
-    is_among(alloc, of, texts)
+    is_among(alloc, of, true_list(alloc))
 }
 
 /// Whether an expression is a text that denotes false.
-fn is_false_text(alloc: Global, of: &Expr) -> Result<Expr, AllocError>
+fn is_false_text(alloc: Global, of: &Expr) -> Built
     ensures { IfOk result (λ e. view e ≡ node.binary forms.membership (view of.now) (node.list (forms.text_trees false_texts))) }
 {
-    let texts = false_list(alloc)?;
-    is_among(alloc, of, texts)
+    is_among(alloc, of, false_list(alloc))
 }
 
 /// The choice between true, false and the error.
-fn chosen_bool(alloc: Global, is_true: Expr, is_false: Expr) -> Result<Expr, AllocError>
-    ensures { IfOk result (λ e. view e ≡ node.ternary (view is_true) (node.literal (node.truth true)) (node.ternary (view is_false) (node.literal (node.truth false)) forms.error_tree)) }
+fn chosen_bool(alloc: Global, is_true: Built, is_false: Built) -> Built
+    ensures { FormOfTwo (λ yes no. node.ternary yes (node.literal (node.truth true)) (node.ternary no (node.literal (node.truth false)) forms.error_tree)) is_true is_false result }
 {
-    let error = build::first(alloc, build::empty(alloc))?;
+    let error = build::first(alloc, build::empty(alloc));
     let no = Expr::Literal(Literal::Bool(false));
-    let other = build::ternary(alloc, is_false, no, error)?;
+    let other = built::ternary(alloc, is_false, Ok(no), error);
     let yes = Expr::Literal(Literal::Bool(true));
-    build::ternary(alloc, is_true, yes, other)
+    built::ternary(alloc, is_true, Ok(yes), other)
 }
 
 /// The bool that a text denotes.
-fn text_bool(alloc: Global, of: &Expr) -> Result<Expr, AllocError>
+fn text_bool(alloc: Global, of: &Expr) -> Built
     ensures { IfOk result (λ e. view e ≡ forms.text_bool_tree (view of.now)) }
 {
-    let is_true = is_true_text(alloc, of)?;
-    let is_false = is_false_text(alloc, of)?;
-    chosen_bool(alloc, is_true, is_false)
+    chosen_bool(alloc, is_true_text(alloc, of), is_false_text(alloc, of))
 }
 
 /// Whether an expression is true, or a text that denotes it.
-fn denotes_true(alloc: Global, of: &Expr) -> Result<Expr, AllocError>
+fn denotes_true(alloc: Global, of: &Expr) -> Built
     ensures { IfOk result (λ e. view e ≡ forms.denotes_tree (view of.now) true true_texts) }
 {
-    let first = is_bool(alloc, of, true)?;
-    let second = is_true_text(alloc, of)?;
-    build::binary(alloc, BinaryOperator::Or, first, second)
+    let is_true = is_bool(alloc, of, true);
+    let is_text = is_true_text(alloc, of);
+    built::binary(alloc, BinaryOperator::Or, is_true, is_text)
 }
 
 /// Whether an expression is false, or a text that denotes it.
-fn denotes_false(alloc: Global, of: &Expr) -> Result<Expr, AllocError>
+fn denotes_false(alloc: Global, of: &Expr) -> Built
     ensures { IfOk result (λ e. view e ≡ forms.denotes_tree (view of.now) false false_texts) }
 {
-    let first = is_bool(alloc, of, false)?;
-    let second = is_false_text(alloc, of)?;
-    build::binary(alloc, BinaryOperator::Or, first, second)
+    let is_false = is_bool(alloc, of, false);
+    let is_text = is_false_text(alloc, of);
+    built::binary(alloc, BinaryOperator::Or, is_false, is_text)
 }
 
 /// The bool that a value or a text denotes.
-fn any_bool(alloc: Global, of: &Expr) -> Result<Expr, AllocError>
+fn any_bool(alloc: Global, of: &Expr) -> Built
     ensures { IfOk result (λ e. view e ≡ forms.bool_tree (view of.now)) }
 {
-    let is_true = denotes_true(alloc, of)?;
-    let is_false = denotes_false(alloc, of)?;
-    chosen_bool(alloc, is_true, is_false)
+    chosen_bool(alloc, denotes_true(alloc, of), denotes_false(alloc, of))
 }
 
 /// The bool that the text denotes that the translation's name denotes.
-fn held_text_bool(alloc: Global) -> Result<Expr, AllocError>
+fn held_text_bool(alloc: Global) -> Built
     ensures { IfOk result (λ e. view e ≡ forms.text_bool_tree forms.held) }
 {
     let held = build::held(alloc)?;
@@ -195,18 +180,17 @@ fn held_text_bool(alloc: Global) -> Result<Expr, AllocError>
 }
 
 /// The bool that a text denotes, with the text written once.
-fn once_text_bool(alloc: Global, of: Expr) -> Result<Expr, AllocError>
+fn once_text_bool(alloc: Global, of: Expr) -> Built
     ensures { IfOk result (λ e. view e ≡ specs.once (view of) forms.text_bool_tree) }
 {
     if build::is_simple(&of) {
         return text_bool(alloc, &of);
     }
-    let body = held_text_bool(alloc)?;
-    build::bound(alloc, of, body)
+    built::bound(alloc, Ok(of), held_text_bool(alloc))
 }
 
 /// The bool that the value denotes that the translation's name denotes.
-fn held_bool(alloc: Global) -> Result<Expr, AllocError>
+fn held_bool(alloc: Global) -> Built
     ensures { IfOk result (λ e. view e ≡ forms.bool_tree forms.held) }
 {
     let held = build::held(alloc)?;
@@ -214,18 +198,17 @@ fn held_bool(alloc: Global) -> Result<Expr, AllocError>
 }
 
 /// The bool that a value of any kind denotes, with the value written once.
-fn once_any_bool(alloc: Global, of: Expr) -> Result<Expr, AllocError>
+fn once_any_bool(alloc: Global, of: Expr) -> Built
     ensures { IfOk result (λ e. view e ≡ specs.once (view of) forms.bool_tree) }
 {
     if build::is_simple(&of) {
         return any_bool(alloc, &of);
     }
-    let body = held_bool(alloc)?;
-    build::bound(alloc, of, body)
+    built::bound(alloc, Ok(of), held_bool(alloc))
 }
 
 /// The bool that a value of a kind denotes.
-pub(crate) fn bool_of(alloc: Global, kind: ValueKind, of: Expr) -> Result<Expr, AllocError>
+pub(crate) fn bool_of(alloc: Global, kind: ValueKind, of: Expr) -> Built
     ensures { IfOk result (λ e. view e ≡ specs.bool_of_kind kind (view of)) }
 {
     match kind {
@@ -235,7 +218,7 @@ pub(crate) fn bool_of(alloc: Global, kind: ValueKind, of: Expr) -> Result<Expr, 
 }
 
 /// The list of the values that are null, false, 0 or empty.
-fn zero_list(alloc: Global) -> Result<Expr, AllocError>
+fn zero_list(alloc: Global) -> Built
     ensures { IfOk result (λ e. view e ≡ node.list forms.zero_trees) }
 {
     let one = build::more(Vec::new(alloc), Expr::Literal(Literal::Null))?;
@@ -248,24 +231,23 @@ fn zero_list(alloc: Global) -> Result<Expr, AllocError>
 }
 
 /// Whether an expression is null, false, 0 or empty.
-fn is_zero(alloc: Global, of: &Expr) -> Result<Expr, AllocError>
+fn is_zero(alloc: Global, of: &Expr) -> Built
     ensures { IfOk result (λ e. view e ≡ node.binary forms.membership (view of.now) (node.list forms.zero_trees)) }
 {
-    let zeros = zero_list(alloc)?;
-    is_among(alloc, of, zeros)
+    is_among(alloc, of, zero_list(alloc))
 }
 
 /// The list of a value, or the empty list if it is null, false, 0 or empty.
-fn any_non_zero(alloc: Global, of: Expr) -> Result<Expr, AllocError>
+fn any_non_zero(alloc: Global, of: Expr) -> Built
     ensures { IfOk result (λ e. view e ≡ forms.non_zero_tree (view of)) }
 {
-    let zero = is_zero(alloc, &of)?;
-    let list = build::one(alloc, of)?;
-    build::ternary(alloc, zero, build::empty(alloc), list)
+    let zero = is_zero(alloc, &of);
+    let list = build::one(alloc, of);
+    built::ternary(alloc, zero, Ok(build::empty(alloc)), list)
 }
 
 /// The same of the value that the translation's name denotes.
-fn held_non_zero(alloc: Global) -> Result<Expr, AllocError>
+fn held_non_zero(alloc: Global) -> Built
     ensures { IfOk result (λ e. view e ≡ forms.non_zero_tree forms.held) }
 {
     let held = build::held(alloc)?;
@@ -273,12 +255,11 @@ fn held_non_zero(alloc: Global) -> Result<Expr, AllocError>
 }
 
 /// The same, with the value written once.
-pub(crate) fn non_zero(alloc: Global, of: Expr) -> Result<Expr, AllocError>
+pub(crate) fn non_zero(alloc: Global, of: Expr) -> Built
     ensures { IfOk result (λ e. view e ≡ specs.once (view of) forms.non_zero_tree) }
 {
     if build::is_simple(&of) {
         return any_non_zero(alloc, of);
     }
-    let body = held_non_zero(alloc)?;
-    build::bound(alloc, of, body)
+    built::bound(alloc, Ok(of), held_non_zero(alloc))
 }
