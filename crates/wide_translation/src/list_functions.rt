@@ -5,6 +5,7 @@ ghost use Rattle.cel_reader.specs.Tree as node;
 ghost use Rattle.cel_reader.specs.Tree.{view};
 ghost use Rattle.cel_reader.specs.declared.operator.BinaryOperator.TheVariants as operation;
 ghost use Rattle.wide_kinds.specs.declared.kind.ValueKind.TheVariants as kind;
+ghost use Rattle.wide_translation.specs.Built.{FormOf, FormOfTwo};
 ghost use Rattle.wide_translation.specs.Carried.{listed, plain, taken};
 ghost use Rattle.wide_translation.specs.Declarations.{ReturnsCarried, carried_view};
 ghost use Rattle.wide_translation.specs.Forms as forms;
@@ -14,78 +15,71 @@ ghost use Rattle.wide_translation.specs.Names as names;
 ghost use Rattle.wide_translation.specs.Parts.{on_plain};
 
 use crate::build;
+use crate::built::{self, Built};
 use crate::carried::{Carried, value_of};
 use crate::names::{HELD, INDEX, SECOND};
 use crate::translation_error::TranslationError;
 use cel_macros::Macro;
 use cel_reader::{BinaryOperator, Expr, Literal};
-use std::alloc::{AllocError, Global};
+use std::alloc::Global;
 use wide_kinds::ValueKind;
 use wide_meaning::Qualified;
 
 /// An expression with a name for a list.
-fn list_bound(alloc: Global, name: &str, of: Expr, body: Expr) -> Result<Expr, AllocError>
-    ensures { IfOk result (λ e. view e ≡ specs.list_let name.now (view of) (view body)) }
+fn list_bound(alloc: Global, name: &str, of: Built, body: Built) -> Built
+    ensures { FormOfTwo (specs.list_let name.now) of body result }
 {
-    let list = build::binary(alloc, BinaryOperator::Add, of, build::empty(alloc))?;
-    build::bound_to(alloc, name, list, body)
+    let list = built::binary(alloc, BinaryOperator::Add, of, Ok(build::empty(alloc)));
+    built::bound_to(alloc, name, list, body)
 }
 
 // ---- items
 
 /// The list of an item, or the empty list if the list that the translation's name denotes is empty.
-fn unless_empty(alloc: Global, item: Expr) -> Result<Expr, AllocError>
-    ensures { IfOk result (λ e. view e ≡ layers.unless_empty_tree (view item)) }
+fn unless_empty(alloc: Global, item: Built) -> Built
+    ensures { FormOf layers.unless_empty_tree item result }
 {
-    let items = build::one(alloc, item)?;
-    let held = build::held(alloc)?;
-    let is_empty = build::binary(alloc, BinaryOperator::Equal, held, build::empty(alloc))?;
-    build::ternary(alloc, is_empty, build::empty(alloc), items)
+    let empty = build::empty(alloc);
+    let is_empty = built::binary(alloc, BinaryOperator::Equal, build::held(alloc), Ok(empty));
+    let items = built::one(alloc, item);
+    built::ternary(alloc, is_empty, Ok(build::empty(alloc)), items)
 }
 
 /// The first item of the list that the translation's name denotes.
-fn start(alloc: Global) -> Result<Expr, AllocError>
+fn start(alloc: Global) -> Built
     ensures { IfOk result (λ e. view e ≡ forms.first_tree forms.held) }
 {
-    let held = build::held(alloc)?;
-    build::first(alloc, held)
+    built::first(alloc, build::held(alloc))
 }
 
 /// The last place in the list that the translation's name denotes.
-fn last_place(alloc: Global) -> Result<Expr, AllocError>
+fn last_place(alloc: Global) -> Built
     ensures { IfOk result (λ e. view e ≡ layers.last_place_tree) }
 {
-    let held = build::held(alloc)?;
-    let size = build::call(alloc, "size", held)?;
+    let size = built::call(alloc, "size", build::held(alloc));
     let one = Expr::Literal(Literal::Int(1));
-    build::binary(alloc, BinaryOperator::Subtract, size, one)
+    built::binary(alloc, BinaryOperator::Subtract, size, Ok(one))
 }
 
 /// The last item of the list that the translation's name denotes.
-fn end(alloc: Global) -> Result<Expr, AllocError>
+fn end(alloc: Global) -> Built
     ensures { IfOk result (λ e. view e ≡ specs.end_tree forms.held) }
 {
-    let place = last_place(alloc)?;
-    let held = build::held(alloc)?;
-    build::index(alloc, held, place)
+    built::index(alloc, build::held(alloc), last_place(alloc))
 }
 
 /// The list of the first item, or the empty list.
-fn first_list(alloc: Global, of: Expr) -> Result<Expr, AllocError>
+fn first_list(alloc: Global, of: Expr) -> Built
     ensures { IfOk result (λ e. view e ≡ specs.first_list_tree (view of)) }
 {
-    let item = start(alloc)?;
-    let body = unless_empty(alloc, item)?;
-    list_bound(alloc, HELD, of, body)
+    list_bound(alloc, HELD, Ok(of), unless_empty(alloc, start(alloc)))
 }
 
 /// The list of the last item, or the empty list.
-fn last_list(alloc: Global, of: Expr) -> Result<Expr, AllocError>
+fn last_list(alloc: Global, of: Expr) -> Built
     ensures { IfOk result (λ e. view e ≡ specs.last_list_tree (view of)) }
 {
-    let item = end(alloc)?;
-    let body = unless_empty(alloc, item)?;
-    list_bound(alloc, HELD, of, body)
+    list_bound(alloc, HELD, Ok(of), unless_empty(alloc, end(alloc)))
 }
 
 /// The first item of a list.
@@ -111,31 +105,28 @@ pub(crate) fn last(alloc: Global, of: Carried) -> Result<Carried, TranslationErr
 }
 
 /// Whether two items are in this order.
-fn ordered(alloc: Global, operator: BinaryOperator) -> Result<Expr, AllocError>
+fn ordered(alloc: Global, operator: BinaryOperator) -> Built
     ensures { IfOk result (λ e. view e ≡ node.binary operator specs.each specs.second) }
 {
-    let left = build::name(alloc, INDEX)?;
-    let right = build::name(alloc, SECOND)?;
-    build::binary(alloc, operator, left, right)
+    let left = build::name(alloc, INDEX);
+    built::binary(alloc, operator, left, build::name(alloc, SECOND))
 }
 
 /// Whether an item is in this order with each item of the list that the translation's name denotes.
-fn before_each(alloc: Global, operator: BinaryOperator) -> Result<Expr, AllocError>
+fn before_each(alloc: Global, operator: BinaryOperator) -> Built
     ensures { IfOk result (λ e. view e ≡ layers.before_each_tree operator) }
 {
-    let test = ordered(alloc, operator)?;
-    let held = build::held(alloc)?;
-    build::fold(alloc, Macro::All, SECOND, held, test)
+    let held = build::held(alloc);
+    built::fold(alloc, Macro::All, SECOND, held, ordered(alloc, operator))
 }
 
 /// The first of the items that are in this order with each item.
-fn first_before_each(alloc: Global, operator: BinaryOperator) -> Result<Expr, AllocError>
+fn first_before_each(alloc: Global, operator: BinaryOperator) -> Built
     ensures { IfOk result (λ e. view e ≡ layers.first_before_each_tree operator) }
 {
-    let test = before_each(alloc, operator)?;
-    let held = build::held(alloc)?;
-    let kept = build::fold(alloc, Macro::Filter, INDEX, held, test)?;
-    build::first(alloc, kept)
+    let held = build::held(alloc);
+    let test = before_each(alloc, operator);
+    built::first(alloc, built::fold(alloc, Macro::Filter, INDEX, held, test))
 }
 
 /// The first item of a list that is in this order with each item.
@@ -149,35 +140,32 @@ pub(crate) fn extreme(
     let Some((_, list)) = value_of(of) else {
         return Err(TranslationError::OptionalValue);
     };
-    let body = first_before_each(alloc, operator)?;
-    let tree = list_bound(alloc, HELD, list, body)?;
-    Ok(Carried::Plain(ValueKind::Dyn, tree))
+    let tree = list_bound(alloc, HELD, Ok(list), first_before_each(alloc, operator));
+    Ok(Carried::Plain(ValueKind::Dyn, tree?))
 }
 
 // ---- sets
 
 /// Whether each item of a list, or one of them, is in another list.
-fn items_in(alloc: Global, quantifier: Macro, of: &str, other: &str) -> Result<Expr, AllocError>
+fn items_in(alloc: Global, quantifier: Macro, of: &str, other: &str) -> Built
     ensures { IfOk result (λ e. view e ≡ forms.macro_tree quantifier names.index_name (node.name of.now) (node.binary operation.In specs.each (node.name other.now))) }
 {
-    let item = build::name(alloc, INDEX)?;
-    let container = build::name(alloc, other)?;
-    let test = build::binary(alloc, BinaryOperator::In, item, container)?;
-    let range = build::name(alloc, of)?;
-    build::fold(alloc, quantifier, INDEX, range, test)
+    let item = build::name(alloc, INDEX);
+    let test = built::binary(alloc, BinaryOperator::In, item, build::name(alloc, other));
+    built::fold(alloc, quantifier, INDEX, build::name(alloc, of), test)
 }
 
 /// Whether each of the two lists that the translation binds has the items of the other.
-fn equivalent(alloc: Global) -> Result<Expr, AllocError>
+fn equivalent(alloc: Global) -> Built
     ensures { IfOk result (λ e. view e ≡ specs.equivalent_tree forms.held specs.second) }
 {
-    let left = items_in(alloc, Macro::All, HELD, SECOND)?;
-    let right = items_in(alloc, Macro::All, SECOND, HELD)?;
-    build::binary(alloc, BinaryOperator::And, left, right)
+    let left = items_in(alloc, Macro::All, HELD, SECOND);
+    let right = items_in(alloc, Macro::All, SECOND, HELD);
+    built::binary(alloc, BinaryOperator::And, left, right)
 }
 
 /// The test of the two lists that the translation binds.
-fn sets_test(alloc: Global, found: Qualified) -> Result<Expr, AllocError>
+fn sets_test(alloc: Global, found: Qualified) -> Built
     ensures { IfOk result (λ e. view e ≡ layers.sets_test found) }
 {
     match found {
@@ -188,12 +176,11 @@ fn sets_test(alloc: Global, found: Qualified) -> Result<Expr, AllocError>
 }
 
 /// A test of two lists, which are both evaluated first.
-fn sets_tree(alloc: Global, found: Qualified, first: Expr, second: Expr) -> Result<Expr, AllocError>
+fn sets_tree(alloc: Global, found: Qualified, first: Expr, second: Expr) -> Built
     ensures { IfOk result (λ e. view e ≡ specs.sets_tree (layers.sets_test found) (view first) (view second)) }
 {
-    let test = sets_test(alloc, found)?;
-    let inner = list_bound(alloc, SECOND, second, test)?;
-    list_bound(alloc, HELD, first, inner)
+    let inner = list_bound(alloc, SECOND, Ok(second), sets_test(alloc, found));
+    list_bound(alloc, HELD, Ok(first), inner)
 }
 
 /// Whether a function tests two sets.
