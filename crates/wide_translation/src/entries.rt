@@ -1,6 +1,6 @@
 //! Map literals, some of whose entries are optional.
 
-ghost use Rattle.std.specs.Prelude.{◌≡◌, IfOk, MatchOption, string_bytes};
+ghost use Rattle.std.specs.Prelude.{◌≡◌, IfOk, IsOkAnd, MatchOption, string_bytes};
 ghost use Rattle.std.specs.Prelude as list;
 ghost use Rattle.cel_reader.specs.Tree as node;
 ghost use Rattle.cel_reader.specs.Tree.{entries, entry_view, view};
@@ -14,6 +14,7 @@ ghost use Rattle.wide_translation.specs.Parts as specs;
 ghost use Rattle.wide_reader.specs.declared.wide.Access.TheVariants as access;
 
 use crate::build;
+use crate::built::{self, Built};
 use crate::carried::Carried;
 use crate::copying::{copy, entry_copies};
 use crate::entry_part::EntryPart;
@@ -35,20 +36,20 @@ fn text_of(key: Expr) -> Option<String>
 }
 
 /// Whether a list has an item.
-fn has_item(alloc: Global, of: &Expr) -> Result<Expr, AllocError>
+fn has_item(alloc: Global, of: &Expr) -> Built
     ensures { IfOk result (λ e. view e ≡ node.binary operation.NotEqual (view of.now) forms.empty_tree) }
 {
-    let again = copy(alloc, of)?;
-    build::binary(alloc, BinaryOperator::NotEqual, again, build::empty(alloc))
+    let empty = build::empty(alloc);
+    built::binary(alloc, BinaryOperator::NotEqual, copy(alloc, of), Ok(empty))
 }
 
 /// An optional entry whose value is carried by a list.
 #[tactic(auto, using(crate::proofs::EntrySteps::listed_more))]
-fn of_list(alloc: Global, field: String, of: Expr) -> Result<EntryPart, AllocError>
-    ensures { IfOk result (λ p. (k : KindOf) (ps : specs.Pairs) → specs.optional_more (string_bytes field) (listed k (view of)) ps ≡ with_part p ps) }
+fn of_list(alloc: Global, field: String, of: Expr) -> Result<EntryPart, TranslationError>
+    ensures { (k : KindOf) → ReturnsEntryPart (specs.optional_more (string_bytes field) (listed k (view of))) result }
 {
-    let guard = has_item(alloc, &of)?;
-    let item = build::first(alloc, of)?;
+    let guard = has_item(alloc, &of);
+    let (guard, item) = built::both(guard, build::first(alloc, of))?;
     Ok(EntryPart::Optional(field, guard, item))
 }
 
@@ -60,7 +61,7 @@ fn of_text(alloc: Global, field: String, value: Carried) -> Result<EntryPart, Tr
     match value {
         Carried::Plain(_, _) => Err(TranslationError::OptionalValue),
         Carried::Guarded(_, guard, item) => Ok(EntryPart::Optional(field, guard, item)),
-        Carried::Listed(_, of) => Ok(of_list(alloc, field, of)?),
+        Carried::Listed(_, of) => of_list(alloc, field, of),
     }
 }
 
@@ -126,6 +127,18 @@ fn with_entry(
     Ok(all)
 }
 
+/// Entries with one more that was built before.
+fn with_built(
+    before: Vec<(Expr, Expr)>,
+    key: Built,
+    value: Built,
+) -> Result<Vec<(Expr, Expr)>, AllocError>
+    ensures { IfOk result (λ v. IsOkAnd key (λ k. IsOkAnd value (λ x. entries (list.map entry_view v.items) ≡ specs.entries_push (entries (list.map entry_view before.items)) (view k) (view x)))) }
+{
+    let (key, value) = built::both(key, value)?;
+    with_entry(before, key, value)
+}
+
 /// Entries with a copy of one more.
 fn with_copy(
     alloc: Global,
@@ -135,9 +148,7 @@ fn with_copy(
 ) -> Result<Vec<(Expr, Expr)>, AllocError>
     ensures { IfOk result (λ v. entries (list.map entry_view v.items) ≡ specs.entries_push (entries (list.map entry_view before.items)) (view key.now) (view value.now)) }
 {
-    let first = copy(alloc, key)?;
-    let second = copy(alloc, value)?;
-    with_entry(before, first, second)
+    with_built(before, copy(alloc, key), copy(alloc, value))
 }
 
 /// Entries with one more, whose key is a text.
@@ -149,32 +160,29 @@ fn with_text(
 ) -> Result<Vec<(Expr, Expr)>, AllocError>
     ensures { IfOk result (λ v. entries (list.map entry_view v.items) ≡ specs.entries_push (entries (list.map entry_view before.items)) (node.literal (node.text field.now)) (view value.now)) }
 {
-    let key = build::text(alloc, field)?;
-    let item = copy(alloc, value)?;
-    with_entry(before, key, item)
+    with_built(before, build::text(alloc, field), copy(alloc, value))
 }
 
 /// A map literal with these entries before the others.
 fn map_with(
     alloc: Global,
-    before: Vec<(Expr, Expr)>,
+    before: Result<Vec<(Expr, Expr)>, AllocError>,
     parts: &[EntryPart],
-) -> Result<Expr, AllocError>
-    ensures { IfOk result (λ e. view e ≡ specs.map_tree (entries (list.map entry_view before.items)) (parts_of parts.now)) }
+) -> Built
+    ensures { IfOk result (λ e. IsOkAnd before (λ v. view e ≡ specs.map_tree (entries (list.map entry_view v.items)) (parts_of parts.now))) }
 {
+    let before = before?;
     match parts {
         [] => Ok(build::map(before)),
         [EntryPart::Always(key, value), more @ ..] => {
-            let all = with_copy(alloc, before, key, value)?;
-            map_with(alloc, all, more)
+            map_with(alloc, with_copy(alloc, before, key, value), more)
         }
         [EntryPart::Optional(field, guard, value), more @ ..] => {
-            let others = entry_copies(alloc, before.as_slice())?;
-            let all = with_text(alloc, before, field.as_str(), value)?;
-            let no = map_with(alloc, others, more)?;
-            let yes = map_with(alloc, all, more)?;
-            let test = copy(alloc, guard)?;
-            build::ternary(alloc, test, yes, no)
+            let others = entry_copies(alloc, before.as_slice());
+            let all = with_text(alloc, before, field.as_str(), value);
+            let yes = map_with(alloc, all, more);
+            let no = map_with(alloc, others, more);
+            built::ternary(alloc, copy(alloc, guard), yes, no)
         }
     }
 }
@@ -186,6 +194,6 @@ pub(crate) fn map(alloc: Global, parts: &[EntryPart]) -> Result<Carried, Transla
     if has_more(3, parts) {
         return Err(TranslationError::OptionalEntry);
     }
-    let tree = map_with(alloc, Vec::new(alloc), parts)?;
-    Ok(Carried::Plain(ValueKind::Map, tree))
+    let tree = map_with(alloc, Ok(Vec::new(alloc)), parts);
+    Ok(Carried::Plain(ValueKind::Map, tree?))
 }
