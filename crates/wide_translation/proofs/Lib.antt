@@ -29,3 +29,4 @@ pub mod PairNames
 pub mod PairSteps
 pub mod PairArms
 pub mod PairReturns
+pub mod IndexForms

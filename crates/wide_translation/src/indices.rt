@@ -3,20 +3,44 @@
 ghost use Rattle.std.specs.Prelude.{◌≡◌, ℕ, IfOk, MatchOption, None, pos};
 ghost use Rattle.cel_reader.specs.Tree as node;
 ghost use Rattle.cel_reader.specs.Tree.{view};
+ghost use Rattle.wide_kinds.specs.declared.kind.ValueKind.TheVariants as kinds;
 ghost use Rattle.wide_reader.specs.Tree as wide;
+ghost use Rattle.wide_reader.specs.declared.wide.Access.TheVariants as accesses;
+ghost use Rattle.wide_translation.specs.Carried.{OptionalValue, plain, refused, taken};
 ghost use Rattle.wide_translation.specs.Declarations.{ReturnsCarried, carried_view};
 ghost use Rattle.wide_translation.specs.Forms as forms;
+ghost use Rattle.wide_translation.specs.Keys as keys;
 ghost use Rattle.wide_translation.specs.Keys.{IsNoLiteralKey};
 ghost use Rattle.wide_translation.specs.Translated as specs;
 
 use crate::carried::{Carried, value_of};
 use crate::names::HELD;
 use crate::translation_error::TranslationError;
-use crate::{build, fields, presence};
+use crate::{build, built, fields, presence};
 use cel_reader::{Expr, Literal};
 use std::alloc::{AllocError, Global};
 use wide_kinds::ValueKind;
 use wide_reader::{Access, Wide};
+
+/// The trees of an operand and an index that are both values.
+fn operands(of: Carried, key: Carried) -> Option<(Expr, Expr)>
+    ensures { let t = specs.plain_index accesses.Plain (carried_view of) (carried_view key) in MatchOption result (t ≡ refused OptionalValue) (λ p. t ≡ taken (plain kinds.Dyn (node.index (view p.0) (view p.1)))) }
+{
+    let (_, first) = value_of(of)?;
+    let (_, second) = value_of(key)?;
+    Some((first, second))
+}
+
+/// An index of a value, without a question mark.
+fn value_index(alloc: Global, of: Carried, key: Carried) -> Result<Carried, TranslationError>
+    ensures { ReturnsCarried (specs.plain_index accesses.Plain (carried_view of) (carried_view key)) result }
+{
+    let Some((first, second)) = operands(of, key) else {
+        return Err(TranslationError::OptionalValue);
+    };
+    let tree = build::index(alloc, first, second)?;
+    Ok(Carried::Plain(ValueKind::Dyn, tree))
+}
 
 /// An index of a value.
 fn plain_index(
@@ -28,21 +52,35 @@ fn plain_index(
     ensures { ReturnsCarried (specs.plain_index access (carried_view of) (carried_view key)) result }
 {
     match access {
-        Access::Plain => {
-            let Some((_, first)) = value_of(of) else {
-                return Err(TranslationError::OptionalValue);
-            };
-            let Some((_, second)) = value_of(key) else {
-                return Err(TranslationError::OptionalValue);
-            };
-            let tree = build::index(alloc, first, second)?;
-            Ok(Carried::Plain(ValueKind::Dyn, tree))
-        }
+        Access::Plain => value_index(alloc, of, key),
         Access::Optional => Err(TranslationError::Unsupported),
     }
 }
 
+/// Whether an index without a question mark is that of a value.
+fn is_index_of_value(access: Access, of: &Carried) -> bool
+    ensures { result ≡ keys.is_index_of_value access (carried_view of.now) }
+{
+    match access {
+        Access::Plain => matches!(of, Carried::Plain(_, _)),
+        Access::Optional => false,
+    }
+}
+
+/// An index that is a field.
+fn field_index(
+    alloc: Global,
+    access: Access,
+    text: &str,
+    of: Carried,
+) -> Result<Carried, TranslationError>
+    ensures { ReturnsCarried (taken (specs.field_carried access text.now (carried_view of))) result }
+{
+    Ok(fields::field(alloc, access, text, of)?)
+}
+
 /// An index by a text literal: a field, but for an index without a question mark of a value.
+#[tactic(auto, using(crate::proofs::IndexForms::text_index_of_value, crate::proofs::IndexForms::text_index_of_field))]
 fn text_index(
     alloc: Global,
     access: Access,
@@ -52,22 +90,10 @@ fn text_index(
 ) -> Result<Carried, TranslationError>
     ensures { ReturnsCarried (specs.text_index text.now access (carried_view of) (carried_view key)) result }
 {
-    match access {
-        Access::Plain => match of {
-            Carried::Plain(kind, tree) => {
-                plain_index(alloc, Access::Plain, Carried::Plain(kind, tree), key)
-            }
-            Carried::Guarded(kind, guard, value) => {
-                let operand = Carried::Guarded(kind, guard, value);
-                Ok(fields::field(alloc, Access::Plain, text, operand)?)
-            }
-            Carried::Listed(kind, list) => {
-                let operand = Carried::Listed(kind, list);
-                Ok(fields::field(alloc, Access::Plain, text, operand)?)
-            }
-        },
-        Access::Optional => Ok(fields::field(alloc, Access::Optional, text, of)?),
+    if is_index_of_value(access, &of) {
+        return plain_index(alloc, access, of, key);
     }
+    field_index(alloc, access, text, of)
 }
 
 /// The optional item of a value.
@@ -80,22 +106,33 @@ fn optional_item(
     ensures { IfOk result (λ c. (n : ℕ) → position ≡ pos n → carried_view c ≡ specs.optional_item (forms.is_simple (view of)) kind (view of) n) }
 {
     if build::is_simple(&of) {
-        let guard = presence::present_item_of(alloc, kind, &of, position)?;
-        let value = presence::item(alloc, of, position)?;
+        let guard = presence::present_item_of(alloc, kind, &of, position);
+        let (guard, value) = built::both(guard, presence::item(alloc, of, position))?;
         return Ok(Carried::Guarded(ValueKind::Dyn, guard, value));
     }
-    let body = presence::item_list(alloc, position)?;
-    let list = build::bound(alloc, of, body)?;
-    Ok(Carried::Listed(ValueKind::Dyn, list))
+    let list = built::bound(alloc, Ok(of), presence::item_list(alloc, position));
+    Ok(Carried::Listed(ValueKind::Dyn, list?))
 }
 
 /// The item of the value of an optional value.
 fn item_of_list(alloc: Global, list: Expr, position: i64) -> Result<Carried, AllocError>
     ensures { IfOk result (λ c. (n : ℕ) → position ≡ pos n → carried_view c ≡ specs.item_of_list (view list) n) }
 {
-    let body = presence::item_list(alloc, position)?;
-    let items = build::flat(alloc, HELD, list, body)?;
-    Ok(Carried::Listed(ValueKind::Dyn, items))
+    let items = built::flat(alloc, HELD, Ok(list), presence::item_list(alloc, position));
+    Ok(Carried::Listed(ValueKind::Dyn, items?))
+}
+
+/// The item of the value of an optional value with a guard.
+fn item_of_guarded(
+    alloc: Global,
+    guard: Expr,
+    value: Expr,
+    position: i64,
+) -> Result<Carried, AllocError>
+    ensures { IfOk result (λ c. (n : ℕ) → position ≡ pos n → carried_view c ≡ specs.item_of_list (forms.guarded_tree (view guard) (view value)) n) }
+{
+    let list = build::guarded(alloc, guard, value)?;
+    item_of_list(alloc, list, position)
 }
 
 /// The optional item of an operand.
@@ -104,15 +141,20 @@ fn item(alloc: Global, of: Carried, position: i64) -> Result<Carried, AllocError
 {
     match of {
         Carried::Plain(kind, tree) => optional_item(alloc, kind, tree, position),
-        Carried::Guarded(_, guard, value) => {
-            let list = build::guarded(alloc, guard, value)?;
-            item_of_list(alloc, list, position)
-        }
+        Carried::Guarded(_, guard, value) => item_of_guarded(alloc, guard, value, position),
         Carried::Listed(_, list) => item_of_list(alloc, list, position),
     }
 }
 
+/// An index that is an item.
+fn item_index(alloc: Global, of: Carried, position: i64) -> Result<Carried, TranslationError>
+    ensures { (n : ℕ) → position ≡ pos n → ReturnsCarried (taken (specs.item_carried n (carried_view of))) result }
+{
+    Ok(item(alloc, of, position)?)
+}
+
 /// An index by an int literal of at least 0: an item, but for an index without a question mark of a value.
+#[tactic(auto, using(crate::proofs::IndexForms::count_index_of_value, crate::proofs::IndexForms::count_index_of_item))]
 fn count_index(
     alloc: Global,
     access: Access,
@@ -122,20 +164,10 @@ fn count_index(
 ) -> Result<Carried, TranslationError>
     ensures { (n : ℕ) → position ≡ pos n → ReturnsCarried (specs.count_index n access (carried_view of) (carried_view key)) result }
 {
-    match access {
-        Access::Plain => match of {
-            Carried::Plain(kind, tree) => {
-                plain_index(alloc, Access::Plain, Carried::Plain(kind, tree), key)
-            }
-            Carried::Guarded(kind, guard, value) => {
-                Ok(item(alloc, Carried::Guarded(kind, guard, value), position)?)
-            }
-            Carried::Listed(kind, list) => {
-                Ok(item(alloc, Carried::Listed(kind, list), position)?)
-            }
-        },
-        Access::Optional => Ok(item(alloc, of, position)?),
+    if is_index_of_value(access, &of) {
+        return plain_index(alloc, access, of, key);
     }
+    item_index(alloc, of, position)
 }
 
 /// An index by an int literal.
