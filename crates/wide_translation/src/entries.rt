@@ -13,12 +13,12 @@ ghost use Rattle.wide_translation.specs.Forms as forms;
 ghost use Rattle.wide_translation.specs.Parts as specs;
 ghost use Rattle.wide_reader.specs.declared.wide.Access.TheVariants as access;
 
-use crate::build;
 use crate::built::{self, Built};
 use crate::carried::Carried;
 use crate::copying::{copy, entry_copies};
 use crate::entry_part::EntryPart;
 use crate::translation_error::TranslationError;
+use crate::{build, together};
 use cel_reader::{BinaryOperator, Expr, Literal};
 use std::alloc::{AllocError, Global};
 use wide_kinds::ValueKind;
@@ -49,7 +49,7 @@ fn of_list(alloc: Global, field: String, of: Expr) -> Result<EntryPart, Translat
     ensures { (k : KindOf) → ReturnsEntryPart (specs.optional_more (string_bytes field) (listed k (view of))) result }
 {
     let guard = has_item(alloc, &of);
-    let (guard, item) = built::both(guard, build::first(alloc, of))?;
+    let (guard, item) = together::both(guard, build::first(alloc, of))?;
     Ok(EntryPart::Optional(field, guard, item))
 }
 
@@ -135,7 +135,7 @@ fn with_built(
 ) -> Result<Vec<(Expr, Expr)>, AllocError>
     ensures { IfOk result (λ v. IsOkAnd key (λ k. IsOkAnd value (λ x. entries (list.map entry_view v.items) ≡ specs.entries_push (entries (list.map entry_view before.items)) (view k) (view x)))) }
 {
-    let (key, value) = built::both(key, value)?;
+    let (key, value) = together::both(key, value)?;
     with_entry(before, key, value)
 }
 

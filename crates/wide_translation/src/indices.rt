@@ -16,7 +16,7 @@ ghost use Rattle.wide_translation.specs.Translated as specs;
 use crate::carried::{Carried, value_of};
 use crate::names::HELD;
 use crate::translation_error::TranslationError;
-use crate::{build, built, fields, presence};
+use crate::{build, built, fields, presence, together};
 use cel_reader::{Expr, Literal};
 use std::alloc::{AllocError, Global};
 use wide_kinds::ValueKind;
@@ -107,7 +107,7 @@ fn optional_item(
 {
     if build::is_simple(&of) {
         let guard = presence::present_item_of(alloc, kind, &of, position);
-        let (guard, value) = built::both(guard, presence::item(alloc, of, position))?;
+        let (guard, value) = together::both(guard, presence::item(alloc, of, position))?;
         return Ok(Carried::Guarded(ValueKind::Dyn, guard, value));
     }
     let list = built::bound(alloc, Ok(of), presence::item_list(alloc, position));
