@@ -11,10 +11,10 @@ ghost use Rattle.wide_translation.specs.Declarations.{carried_view, fault_of, is
 ghost use Rattle.wide_translation.specs.Segments.{after_parts, joined_parts, segment_tree};
 ghost use Rattle.wide_translation.specs.Parts.{Parts, list_more, no_parts, one_more};
 
-use crate::build;
 use crate::calls::as_list;
 use crate::carried::Carried;
 use crate::translation_error::TranslationError;
+use crate::{build, built};
 use cel_reader::{BinaryOperator, Expr};
 use std::alloc::{AllocError, Global};
 use wide_reader::Access;
@@ -32,12 +32,11 @@ pub(crate) struct ListParts {
 fn segment(alloc: Global, items: Vec<Expr>, optional: Expr, after: Expr) -> Result<Expr, AllocError>
     ensures { IfOk result (λ e. view e ≡ segment_tree (list.map view items.items, view optional) (view after)) }
 {
-    let is_empty = items.is_empty();
-    let rest = build::binary(alloc, BinaryOperator::Add, optional, after)?;
-    if is_empty {
-        return Ok(rest);
+    let rest = build::binary(alloc, BinaryOperator::Add, optional, after);
+    if items.is_empty() {
+        return rest;
     }
-    build::binary(alloc, BinaryOperator::Add, build::list(items), rest)
+    built::binary(alloc, BinaryOperator::Add, Ok(build::list(items)), rest)
 }
 
 impl ListParts {
