@@ -3,6 +3,7 @@ pub mod Names
 pub mod Ranks
 pub mod Prefixes
 pub mod Steps
+pub mod Parts
 pub mod Lists
 pub mod Selections
 pub mod Formed

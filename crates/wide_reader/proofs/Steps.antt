@@ -1,5 +1,6 @@
 -- Steps over the results of calls.
-use Rattle.wide_reader.proofs.Prelude.{true, false, ◌≡◌, ◌≢◌, ℕ, suc, ◌-◌, List, [], ◌∷◌, ◌++◌, map, length, Err, Result, sym, ◌∙◌, ap, arith, map-append, length-map, WideReadOutcome, Refused, WideCause, Misfit, Deep, ReturnsWideOutcome, WideKind, Row, WidePlan, access, look, enter, inside, WidePlanRuns, Access, Plain, Optional, Starts, Prefixed, goes, found, missing, enters, opened, full, WideStepReads, Unary, unary_mark, UnaryOperator, Mark, err_from_is_err_and, IsErrAnd, WideWord, WideToken, token_view, mark, CodeToken, words, WideLook, WideFoundBy, WideIs, this_mark, opens_mark, Refusal}
+use Rattle.wide_reader.proofs.Prelude.{true, false, ◌≡◌, ◌≢◌, ℕ, suc, ◌-◌, List, [], ◌∷◌, ◌++◌, map, length, Result, sym, ◌∙◌, ap, arith, map-append, length-map, WideReadOutcome, Refused, WideCause, Deep, ReturnsWideOutcome, WideKind, Row, WidePlan, access, look, enter, inside, WidePlanRuns, Access, Plain, Optional, Starts, Prefixed, goes, found, missing, enters, opened, full, WideStepReads, Unary, unary_mark, UnaryOperator, Mark, err_from_is_err_and, IsErrAnd, WideWord, WideToken, token_view, mark, CodeToken, words, WideLook, WideFoundBy, WideIs, this_mark, opens_mark, Refusal}
+use Rattle.wide_reader.specs.Reading.{Fails}
 use Rattle.cel_reader.specs.declared.operator.UnaryOperator.TheVariants as unary
 
 pub has_room : (room : ℕ) → room ≢ 0 → room ≡ suc (room - 1)
@@ -48,10 +49,6 @@ module _ (source : List ℕ) (tokens : List CodeToken) (P : List WideWord → Ty
 
   pub deep_left : P (words source tokens) → (rest : List WideWord) × (suc (length tokens) ≡ suc (length rest)) × P rest
   deep_left p = (words source tokens, ap suc (words_length source tokens), p)
-
--- the outcome that an error means
-abbrev pub Fails : Refusal → (WideReadOutcome → Type 0) → Type 0
-Fails e P = ReturnsWideOutcome {X = Unit {0}} (λ u. Refused (Misfit [])) (Err e) P
 
 -- the outcome that an error means, from the code's finding
 pub refused : {X : Type 0} (token_view : X → WideReadOutcome) (P Q : WideReadOutcome → Type 0) (e : Refusal) (r : Result X Refusal) → IsErrAnd r (λ f. f ≡ e) → Fails e P

@@ -7,7 +7,8 @@ use Rattle.wide_reader.specs.declared.wide_error.WideReadError.TheVariants as er
 use Rattle.wide_reader.specs.Faults.{verdict}
 use Rattle.wide_reader.specs.declared.wide_error.MacroFault.{MacroFault}
 use Rattle.wide_reader.specs.Place.{unsupported_in, first_error, wide_refused_at}
-use Rattle.wide_reader.proofs.Steps.{Fails, words_length}
+use Rattle.wide_reader.proofs.Steps.{words_length}
+use Rattle.wide_reader.specs.Reading.{Fails}
 use Rattle.wide_reader.proofs.Places.{MisfitAt, OpenedAt, misfit_at, deep_at, rest_at, none_at}
 use Rattle.wide_reader.proofs.Unsupported.{supported, told_unsupported}
 use Rattle.wide_reader.proofs.Theorems.{whole_sound, whole_unique, misfit_never, rest_never}

@@ -1,5 +1,5 @@
 -- The steps of the reader, and their outcomes.
-use Rattle.std.specs.Prelude.{◌≡◌, ℕ, zero, suc, List, [], ◌∷◌, ◌++◌, length, Bool, true, false, not, Result, Ok, Err}
+use Rattle.std.specs.Prelude.{◌≡◌, ℕ, zero, suc, List, [], ◌∷◌, ◌++◌, length, Bool, true, false, not, Option, None, Some, Result, Ok, Err}
 use Rattle.std.proofs.Common.{refl}
 use Rattle.wide_tokens.specs.Token.{WideWord, mark}
 use Rattle.cel_tokens.specs.declared.mark.Mark.{Mark, TheVariants.CloseBracket, TheVariants.OpenBrace}
@@ -91,6 +91,11 @@ access f = look (at Question) (λ x. f Optional) (f Plain)
 abbrev pub maybe_call : Wide → (List Wide → Wide) → WidePlan false whole
 maybe_call a of = enter OpenParen refl (call Called (λ more. done (of more))) (done a)
 
+-- a name alone, or with arguments
+abbrev pub with_arguments : Wide → (List Wide → Wide) → Option (List Wide) → Wide
+with_arguments a of None = a
+with_arguments a of (Some more) = of more
+
 -- a list after its opening bracket: it is empty or continues with the first part; in a
 -- call a comma there is refused by the argument
 abbrev pub first_part : {k : WideKind} → Closing → WideOf k → WideReadStep false k → WidePlan true k
@@ -104,9 +109,17 @@ behind c all next =
     look (at (closing_mark c)) (λ x. done all)
     (look (at Comma) (λ x. look (in_literal c (closing_mark c)) (λ y. done all) (go next)) misfit)
 
+-- a step whose phrase this mark follows
+abbrev pub before : {k : WideKind} → WideReadStep false whole → Mark → (Wide → WidePlan false k) → WidePlan false k
+before s m f = call s (λ a. look (at m) (λ x. f a) misfit)
+
 -- an expression up to this mark
 abbrev pub up_to : {k : WideKind} → Mark → (Wide → WidePlan false k) → WidePlan false k
-up_to m f = call (Row Expression) (λ a. look (at m) (λ x. f a) misfit)
+up_to m f = before (Row Expression) m f
+
+-- the branches of a conditional, after its question mark
+abbrev pub branches : Wide → WidePlan true whole
+branches a = inside (before (Row (Infix Or)) Colon (λ b. call (Row Expression) (λ c. done (tree.ternary a b c))))
 
 -- an index after its bracket and its question mark, if it has one
 abbrev pub index_after : Wide → Access → WidePlan false whole
@@ -122,9 +135,7 @@ entry_after before o = up_to Colon (λ a. call (Row Expression) (λ b. go (Behin
 
 -- what the reader does in each state
 abbrev pub plan : {b : Bool} {k : WideKind} → WideReadStep b k → WidePlan b k
-plan (Row Expression) =
-    call (Row (Infix Or)) (λ a. enter Question refl (inside (call (Row (Infix Or)) (λ b. look (at Colon) (λ x. call (Row Expression) (λ c.
-    done (tree.ternary a b c))) misfit))) (done a))
+plan (Row Expression) = call (Row (Infix Or)) (λ a. enter Question refl (branches a) (done a))
 plan (Row (Infix l)) = call (Row (below l)) (λ a. go (Tail l a))
 plan (Tail l a) = look (operator l) (λ op. call (Row (below l)) (λ b. go (Tail l (tree.binary op a b)))) (done a)
 plan (Row Unary) =
@@ -203,3 +214,18 @@ ReturnsWideOutcome seen (Ok x) P = P (seen x)
 ReturnsWideOutcome seen (Err (refusal.Misfit left)) P = (rest : List WideWord) × (left ≡ length rest) × P (Refused (Misfit rest))
 ReturnsWideOutcome seen (Err (refusal.Deep left)) P = (rest : List WideWord) × (left ≡ suc (length rest)) × P (Refused (Deep rest))
 ReturnsWideOutcome seen (Err refusal.Memory) P = Unit {0}
+
+-- an error's outcome is one of this reading
+abbrev pub Fails : Refusal → (WideReadOutcome → Type 0) → Type 0
+Fails e P = ReturnsWideOutcome {X = Unit {0}} (λ u. Refused (Misfit [])) (Err e) P
+
+-- what was read leads to each outcome of this reading that follows from it; an error's outcome is one of the reading
+abbrev pub Leads : {X : Type 0} → Result X Refusal → (X → WideReadOutcome → Type 0) → (WideReadOutcome → Type 0) → Type 0
+Leads (Ok x) After P = (o : WideReadOutcome) → After x o → P o
+Leads (Err e) After P = Fails e P
+
+-- the second result is the first one's error, or built from what was read unless an allocation failed
+abbrev pub IsBuiltFrom : {X Y : Type 0} → Result X Refusal → Result Y Refusal → (X → Y → Type 0) → Type 0
+IsBuiltFrom (Ok x) (Ok y) Built = Built x y
+IsBuiltFrom (Ok x) (Err e) Built = e ≡ refusal.Memory
+IsBuiltFrom (Err e) r Built = r ≡ Err e

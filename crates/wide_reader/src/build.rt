@@ -11,6 +11,27 @@ use crate::wide::{Access, Macro, OptionalMacro, PairMacro, Wide};
 use cel_reader::{BinaryOperator, Literal, UnaryOperator};
 use std::alloc::{AllocError, Global};
 
+/// Both in boxes.
+fn boxed<T: Drop>(alloc: Global, first: T, second: T) -> Result<(Box<T>, Box<T>), AllocError>
+    ensures { IfOk result (λ b. (b.0.value ≡ first) × (b.1.value ≡ second)) }
+{
+    let first = Box::new(alloc, first)?;
+    Ok((first, Box::new(alloc, second)?))
+}
+
+/// All three in boxes.
+fn all_boxed<T: Drop>(
+    alloc: Global,
+    first: T,
+    second: T,
+    third: T,
+) -> Result<(Box<T>, Box<T>, Box<T>), AllocError>
+    ensures { IfOk result (λ b. (b.0.value ≡ first) × (b.1.value ≡ second) × (b.2.value ≡ third)) }
+{
+    let (first, second) = boxed(alloc, first, second)?;
+    Ok((first, second, Box::new(alloc, third)?))
+}
+
 /// A literal.
 pub fn literal(literal: Literal) -> Wide
     ensures { view result ≡ node.literal (literal_view literal) }
@@ -57,7 +78,8 @@ pub fn select(alloc: Global, of: Wide, access: Access, field: String) -> Result<
 pub fn index(alloc: Global, of: Wide, access: Access, at: Wide) -> Result<Wide, AllocError>
     ensures { IfOk result (λ e. view e ≡ node.index (view of) access (view at)) }
 {
-    Ok(Wide::Index(Box::new(alloc, of)?, access, Box::new(alloc, at)?))
+    let (of, at) = boxed(alloc, of, at)?;
+    Ok(Wide::Index(of, access, at))
 }
 
 /// An operand after operators, of which an even number leaves no node.
@@ -85,18 +107,16 @@ pub fn binary(
 ) -> Result<Wide, AllocError>
     ensures { IfOk result (λ e. view e ≡ node.binary operator (view left) (view right)) }
 {
-    Ok(Wide::Binary(operator, Box::new(alloc, left)?, Box::new(alloc, right)?))
+    let (left, right) = boxed(alloc, left, right)?;
+    Ok(Wide::Binary(operator, left, right))
 }
 
 /// A conditional.
 pub fn ternary(alloc: Global, condition: Wide, yes: Wide, no: Wide) -> Result<Wide, AllocError>
     ensures { IfOk result (λ e. view e ≡ node.ternary (view condition) (view yes) (view no)) }
 {
-    Ok(Wide::Ternary(
-        Box::new(alloc, condition)?,
-        Box::new(alloc, yes)?,
-        Box::new(alloc, no)?,
-    ))
+    let (condition, yes, no) = all_boxed(alloc, condition, yes, no)?;
+    Ok(Wide::Ternary(condition, yes, no))
 }
 
 /// A call of a function.
@@ -128,7 +148,8 @@ pub fn fold(
 ) -> Result<Wide, AllocError>
     ensures { IfOk result (λ e. view e ≡ node.fold found (view of) (string_bytes name) (view part)) }
 {
-    Ok(Wide::Fold(found, Box::new(alloc, of)?, name, Box::new(alloc, part)?))
+    let (of, part) = boxed(alloc, of, part)?;
+    Ok(Wide::Fold(found, of, name, part))
 }
 
 /// A macro over an optional value.
@@ -141,7 +162,8 @@ pub fn optional_fold(
 ) -> Result<Wide, AllocError>
     ensures { IfOk result (λ e. view e ≡ node.optional_fold found (view of) (string_bytes name) (view part)) }
 {
-    Ok(Wide::OptionalFold(found, Box::new(alloc, of)?, name, Box::new(alloc, part)?))
+    let (of, part) = boxed(alloc, of, part)?;
+    Ok(Wide::OptionalFold(found, of, name, part))
 }
 
 /// A macro with one name, a predicate and a transform.
@@ -154,12 +176,8 @@ pub fn filter_map(
 ) -> Result<Wide, AllocError>
     ensures { IfOk result (λ e. view e ≡ node.filter_map (view of) (string_bytes name) (view test) (view transform)) }
 {
-    Ok(Wide::FilterMap(
-        Box::new(alloc, of)?,
-        name,
-        Box::new(alloc, test)?,
-        Box::new(alloc, transform)?,
-    ))
+    let (of, test, transform) = all_boxed(alloc, of, test, transform)?;
+    Ok(Wide::FilterMap(of, name, test, transform))
 }
 
 /// A macro with two names.
@@ -172,14 +190,9 @@ pub fn pair_fold(
 ) -> Result<Wide, AllocError>
     ensures { IfOk result (λ e. view e ≡ node.pair_fold found (view of) (string_bytes names.0) (string_bytes names.1) (view part)) }
 {
+    let (of, part) = boxed(alloc, of, part)?;
     let (key, value) = names;
-    Ok(Wide::PairFold(
-        found,
-        Box::new(alloc, of)?,
-        key,
-        value,
-        Box::new(alloc, part)?,
-    ))
+    Ok(Wide::PairFold(found, of, key, value, part))
 }
 
 /// A macro with two names, a predicate and a transform.
@@ -192,12 +205,7 @@ pub fn pair_filter_map(
 ) -> Result<Wide, AllocError>
     ensures { IfOk result (λ e. view e ≡ node.pair_filter_map (view of) (string_bytes names.0) (string_bytes names.1) (view test) (view transform)) }
 {
+    let (of, test, transform) = all_boxed(alloc, of, test, transform)?;
     let (key, value) = names;
-    Ok(Wide::PairFilterMap(
-        Box::new(alloc, of)?,
-        key,
-        value,
-        Box::new(alloc, test)?,
-        Box::new(alloc, transform)?,
-    ))
+    Ok(Wide::PairFilterMap(of, key, value, test, transform))
 }

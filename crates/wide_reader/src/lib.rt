@@ -12,6 +12,7 @@ mod limits;
 mod look;
 mod name;
 mod operator;
+mod phrase;
 mod place;
 mod reader;
 mod refusal;

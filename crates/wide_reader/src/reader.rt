@@ -1,16 +1,14 @@
 //! The reader: a function for each row of the grammar.
 
-ghost use Rattle.std.specs.Prelude.{◌≡◌, ◌<◌, ◌≤◌, length, IfOk, string_bytes};
+ghost use Rattle.std.specs.Prelude.{◌≡◌, ◌<◌, ◌≤◌, ◌∷◌, [], ◌++◌, List, length, IfOk, option_map, string_bytes};
 ghost use Rattle.std.specs.Prelude as list;
-ghost use Rattle.wide_reader.specs.Tree.{view, item_view, entry_view};
-ghost use Rattle.wide_reader.specs.Grammar as row;
-ghost use Rattle.std.specs.Str.{IsUtf8};
 ghost use Rattle.wide_reader.specs.Tree as node;
+ghost use Rattle.wide_reader.specs.Tree.{Wide as Tree, view, item_view, entry_view};
+ghost use Rattle.wide_reader.specs.Grammar as row;
 ghost use Rattle.wide_reader.specs.Grammar.{One, Many, Listed, Keyed, below};
-ghost use Rattle.wide_reader.specs.declared.wide.Access.TheVariants.{Plain};
-ghost use Rattle.wide_reader.specs.Forms.{method_of, call_of};
+ghost use Rattle.wide_reader.specs.Forms.{method_of};
 ghost use Rattle.wide_reader.specs.Look.{words};
-ghost use Rattle.wide_reader.specs.Reading.{ReturnsWideOutcome, WideStepReads, WidePlanRuns, maybe_call, Got, Row, Selection, Indexed, Enclosed, Called, Bracketed, Mapped};
+ghost use Rattle.wide_reader.specs.Reading.{ReturnsWideOutcome, Leads, WideStepReads, WidePlanRuns, maybe_call, with_arguments, branches, Got, Row, Selection, Indexed, Enclosed, Called, Bracketed, Mapped, Entry, BehindEntry};
 
 use crate::closing::Closing;
 use crate::level::Level;
@@ -19,15 +17,12 @@ use crate::look::{
     quoted_at, selector_at,
 };
 use crate::name::name_of;
-use crate::refusal::{Refusal, misfit, too_deep};
+use crate::phrase::{self, Named, Read};
+use crate::refusal::{misfit, too_deep};
 use crate::wide::{Access, Wide};
-use crate::{build, forming};
 use cel_tokens::Mark;
 use std::alloc::Global;
 use wide_tokens::Token;
-
-/// What was read, and the tokens after it.
-type Read<'a, T = Wide> = Result<(T, &'a [Token]), Refusal>;
 
 /// The expression that is first, with `room` more brackets and conditionals to open, and the tokens after it.
 #[cycle(reader)]
@@ -39,15 +34,28 @@ pub fn expression<'a>(alloc: Global, text: &'a [u8], tokens: &'a [Token], room: 
     let Some(yes_tokens) = after(text, rest, Mark::Question) else {
         return Ok((condition, rest));
     };
+    let branches = branches(alloc, text, yes_tokens, room);
+    phrase::ternary(alloc, condition, branches)
+}
+
+/// The branches of a conditional, after its question mark.
+#[cycle(reader)]
+fn branches<'a>(
+    alloc: Global,
+    text: &'a [u8],
+    yes_tokens: &'a [Token],
+    room: u8,
+) -> Read<'a, (Wide, Wide)>
+    ensures reads { (a : Tree) → ReturnsWideOutcome (λ x. Got (One (node.ternary a (view x.0.0) (view x.0.1))) (words text.now x.1.now)) result (WidePlanRuns (branches a) room (words text.now yes_tokens.now)) }
+    ensures shorter { IfOk result (λ x. length x.1.now < length yes_tokens.now) }
+{
     if room == 0 {
         return Err(too_deep(yes_tokens));
     }
-    let (yes, yes_end) = infix(alloc, text, yes_tokens, Level::Or, room - 1)?;
-    let Some(no_tokens) = after(text, yes_end, Mark::Colon) else {
-        return Err(misfit(yes_end));
-    };
-    let (no, end) = expression(alloc, text, no_tokens, room - 1)?;
-    Ok((build::ternary(alloc, condition, yes, no)?, end))
+    let yes = infix(alloc, text, yes_tokens, Level::Or, room - 1);
+    let (yes, no_tokens) = phrase::up_to(text, Mark::Colon, yes)?;
+    let no = expression(alloc, text, no_tokens, room - 1);
+    phrase::pair(yes, no)
 }
 
 /// An operand of the level and its operators, from the left.
@@ -58,8 +66,9 @@ fn infix<'a>(alloc: Global, text: &'a [u8], tokens: &'a [Token], level: Level, r
 {
     let (mut left, mut rest) = operand(alloc, text, tokens, level, room)?;
     while let Some((operator, right_tokens)) = operator_at(text, rest, level) {
-        let (right, end) = operand(alloc, text, right_tokens, level, room)?;
-        left = build::binary(alloc, operator, left, right)?;
+        let right = operand(alloc, text, right_tokens, level, room);
+        let (joined, end) = phrase::binary(alloc, operator, left, right)?;
+        left = joined;
         rest = end;
     }
     Ok((left, rest))
@@ -96,8 +105,8 @@ fn unary<'a>(alloc: Global, text: &'a [u8], tokens: &'a [Token], room: u8) -> Re
         return member(alloc, text, tokens, room);
     };
     let (odd, rest) = prefixes(text, behind, operator);
-    let (operand, end) = member(alloc, text, rest, room)?;
-    Ok((build::applied(alloc, operator, odd, operand)?, end))
+    let operand = member(alloc, text, rest, room);
+    phrase::applied(alloc, operator, odd, operand)
 }
 
 /// A primary with its selections, calls and indexes.
@@ -109,11 +118,13 @@ fn member<'a>(alloc: Global, text: &'a [u8], tokens: &'a [Token], room: u8) -> R
     let (mut tree, mut rest) = primary(alloc, text, tokens, room)?;
     loop {
         if let Some(behind) = after(text, rest, Mark::Dot) {
-            let (selected, end) = selection(alloc, text, behind, tree, room)?;
+            let named = selection(alloc, text, behind, room);
+            let (selected, end) = phrase::selection(alloc, tree, named)?;
             tree = selected;
             rest = end;
         } else if let Some(behind) = after(text, rest, Mark::OpenBracket) {
-            let (indexed, end) = indexed(alloc, text, behind, tree, room)?;
+            let at = indexed(alloc, text, behind, room);
+            let (indexed, end) = phrase::index(alloc, tree, at)?;
             tree = indexed;
             rest = end;
         } else {
@@ -122,62 +133,52 @@ fn member<'a>(alloc: Global, text: &'a [u8], tokens: &'a [Token], room: u8) -> R
     }
 }
 
-/// The field or the method call after a dot.
+/// The name after a dot, and its arguments if it is called.
 #[cycle(reader)]
-fn selection<'a>(alloc: Global, text: &'a [u8], tokens: &'a [Token], of: Wide, room: u8) -> Read<'a>
-    ensures reads { ReturnsWideOutcome (λ x. Got (One (view x.0)) (words text.now x.1.now)) result (WideStepReads (Selection (view of)) room (words text.now tokens.now)) }
+fn selection<'a>(
+    alloc: Global,
+    text: &'a [u8],
+    tokens: &'a [Token],
+    room: u8,
+) -> Read<'a, (Access, Named)>
+    ensures reads { (a : Tree) → ReturnsWideOutcome (λ x. Got (One (with_arguments (node.select a x.0.0 (string_bytes x.0.1.0)) (λ more. method_of a (string_bytes x.0.1.0) (node.wides more)) (option_map (λ v. list.map view v.items) x.0.1.1))) (words text.now x.1.now)) result (WideStepReads (Selection a) room (words text.now tokens.now)) }
     ensures shorter { IfOk result (λ x. length x.1.now < length tokens.now) }
 {
     let (access, name_tokens) = access_at(text, tokens);
     if let Some((name, rest)) = quoted_at(text, name_tokens) {
         let name = name_of(alloc, name)?;
-        return Ok((build::select(alloc, of, access, name)?, rest));
+        return Ok(((access, (name, None)), rest));
     }
     let Some((name, rest)) = selector_at(text, name_tokens) else {
         return Err(misfit(name_tokens));
     };
     let name = name_of(alloc, name)?;
     match access {
-        Access::Optional => Ok((build::select(alloc, of, access, name)?, rest)),
-        Access::Plain => method(alloc, text, rest, of, name, room),
+        Access::Optional => Ok(((access, (name, None)), rest)),
+        Access::Plain => {
+            let named = phrase::pair(name, maybe_arguments(alloc, text, rest, room));
+            phrase::pair(access, named)
+        }
     }
-}
-
-/// The field of this name, or a call of the method if a parenthesis follows.
-#[cycle(reader)]
-fn method<'a>(
-    alloc: Global,
-    text: &'a [u8],
-    tokens: &'a [Token],
-    of: Wide,
-    name: String,
-    room: u8,
-) -> Read<'a>
-    ensures reads { ReturnsWideOutcome (λ x. Got (One (view x.0)) (words text.now x.1.now)) result (WidePlanRuns (maybe_call (node.select (view of) Plain (string_bytes name)) (λ more. method_of (view of) (string_bytes name) (node.wides more))) room (words text.now tokens.now)) }
-    ensures shorter { IfOk result (λ x. length x.1.now ≤ length tokens.now) }
-{
-    let Some(behind) = after(text, tokens, Mark::OpenParen) else {
-        return Ok((build::select(alloc, of, Access::Plain, name)?, tokens));
-    };
-    let (arguments, end) = arguments(alloc, text, behind, room)?;
-    Ok((forming::method(alloc, of, name, arguments)?, end))
 }
 
 /// The index after a member's bracket.
 #[cycle(reader)]
-fn indexed<'a>(alloc: Global, text: &'a [u8], tokens: &'a [Token], of: Wide, room: u8) -> Read<'a>
-    ensures reads { ReturnsWideOutcome (λ x. Got (One (view x.0)) (words text.now x.1.now)) result (WideStepReads (Indexed (view of)) room (words text.now tokens.now)) }
+fn indexed<'a>(
+    alloc: Global,
+    text: &'a [u8],
+    tokens: &'a [Token],
+    room: u8,
+) -> Read<'a, (Access, Wide)>
+    ensures reads { (a : Tree) → ReturnsWideOutcome (λ x. Got (One (node.index a x.0.0 (view x.0.1))) (words text.now x.1.now)) result (WideStepReads (Indexed a) room (words text.now tokens.now)) }
     ensures shorter { IfOk result (λ x. length x.1.now < length tokens.now) }
 {
     if room == 0 {
         return Err(too_deep(tokens));
     }
     let (access, at_tokens) = access_at(text, tokens);
-    let (at, at_end) = expression(alloc, text, at_tokens, room - 1)?;
-    let Some(end) = after(text, at_end, Mark::CloseBracket) else {
-        return Err(misfit(at_end));
-    };
-    Ok((build::index(alloc, of, access, at)?, end))
+    let at = expression(alloc, text, at_tokens, room - 1);
+    phrase::pair(access, phrase::up_to(text, Mark::CloseBracket, at))
 }
 
 /// A name, a call, a literal or an expression in brackets.
@@ -190,12 +191,12 @@ fn primary<'a>(alloc: Global, text: &'a [u8], tokens: &'a [Token], room: u8) -> 
         return enclosed(alloc, text, inside, room);
     }
     if let Some(inside) = after(text, tokens, Mark::OpenBracket) {
-        let (list, end) = items(alloc, text, inside, room)?;
-        return Ok((build::list(list), end));
+        let items = items(alloc, text, inside, room);
+        return phrase::list(items);
     }
     if let Some(inside) = after(text, tokens, Mark::OpenBrace) {
-        let (map, end) = entries(alloc, text, inside, room)?;
-        return Ok((build::map(map), end));
+        let entries = entries(alloc, text, inside, room);
+        return phrase::map(entries);
     }
     if let Some((literal, rest)) = literal_at(alloc, text, tokens)? {
         return Ok((literal, rest));
@@ -204,36 +205,16 @@ fn primary<'a>(alloc: Global, text: &'a [u8], tokens: &'a [Token], room: u8) -> 
         let Some((name, rest)) = identifier_at(text, behind) else {
             return Err(misfit(behind));
         };
-        let root = build::root(name_of(alloc, name)?);
-        return called(alloc, text, rest, root, name, room);
+        let name = name_of(alloc, name)?;
+        let arguments = maybe_arguments(alloc, text, rest, room);
+        return phrase::root(name, arguments);
     }
     let Some((name, rest)) = identifier_at(text, tokens) else {
         return Err(misfit(tokens));
     };
-    let plain = build::name(name_of(alloc, name)?);
-    called(alloc, text, rest, plain, name, room)
-}
-
-/// The name, or a call of the function if a parenthesis follows.
-#[cycle(reader)]
-fn called<'a>(
-    alloc: Global,
-    text: &'a [u8],
-    tokens: &'a [Token],
-    name: Wide,
-    function: &'a [u8],
-    room: u8,
-) -> Read<'a>
-    requires { IsUtf8 function.now }
-    ensures reads { ReturnsWideOutcome (λ x. Got (One (view x.0)) (words text.now x.1.now)) result (WidePlanRuns (maybe_call (view name) (λ more. call_of function.now (node.wides more))) room (words text.now tokens.now)) }
-    ensures shorter { IfOk result (λ x. length x.1.now ≤ length tokens.now) }
-{
-    let Some(behind) = after(text, tokens, Mark::OpenParen) else {
-        return Ok((name, tokens));
-    };
-    let function = name_of(alloc, function)?;
-    let (arguments, end) = arguments(alloc, text, behind, room)?;
-    Ok((forming::call(function, arguments), end))
+    let name = name_of(alloc, name)?;
+    let arguments = maybe_arguments(alloc, text, rest, room);
+    phrase::call(name, arguments)
 }
 
 /// The expression after a parenthesis, up to the closing one.
@@ -245,11 +226,26 @@ fn enclosed<'a>(alloc: Global, text: &'a [u8], tokens: &'a [Token], room: u8) ->
     if room == 0 {
         return Err(too_deep(tokens));
     }
-    let (inner, inner_end) = expression(alloc, text, tokens, room - 1)?;
-    let Some(end) = after(text, inner_end, Mark::CloseParen) else {
-        return Err(misfit(inner_end));
+    let inner = expression(alloc, text, tokens, room - 1);
+    phrase::up_to(text, Mark::CloseParen, inner)
+}
+
+/// The arguments of a call, if a parenthesis follows.
+#[cycle(reader)]
+fn maybe_arguments<'a>(
+    alloc: Global,
+    text: &'a [u8],
+    tokens: &'a [Token],
+    room: u8,
+) -> Read<'a, Option<Vec<Wide>>>
+    ensures reads { (a : Tree) (of : List Tree → Tree) → ReturnsWideOutcome (λ x. Got (One (with_arguments a of (option_map (λ v. list.map view v.items) x.0))) (words text.now x.1.now)) result (WidePlanRuns (maybe_call a of) room (words text.now tokens.now)) }
+    ensures shorter { IfOk result (λ x. length x.1.now ≤ length tokens.now) }
+{
+    let Some(inside) = after(text, tokens, Mark::OpenParen) else {
+        return Ok((None, tokens));
     };
-    Ok((inner, end))
+    let (arguments, end) = arguments(alloc, text, inside, room)?;
+    Ok((Some(arguments), end))
 }
 
 /// The arguments after a parenthesis, up to the closing one.
@@ -266,20 +262,21 @@ fn arguments<'a>(
     if room == 0 {
         return Err(too_deep(tokens));
     }
-    let mut arguments = Vec::new(alloc);
     if let Some(end) = end_at(text, tokens, Closing::Call) {
-        return Ok((arguments, end));
+        return Ok((Vec::new(alloc), end));
     }
+    let mut arguments = Vec::new(alloc);
     let mut rest = tokens;
     loop {
-        let (argument, argument_end) = expression(alloc, text, rest, room - 1)?;
-        arguments.push(argument)?;
+        let argument = expression(alloc, text, rest, room - 1);
+        let (grown, argument_end) = phrase::pushed(arguments, argument)?;
         if let Some(end) = end_at(text, argument_end, Closing::Call) {
-            return Ok((arguments, end));
+            return Ok((grown, end));
         }
         let Some(behind) = after(text, argument_end, Mark::Comma) else {
             return Err(misfit(argument_end));
         };
+        arguments = grown;
         rest = behind;
     }
 }
@@ -298,24 +295,25 @@ fn items<'a>(
     if room == 0 {
         return Err(too_deep(tokens));
     }
-    let mut items = Vec::new(alloc);
     if let Some(end) = end_at(text, tokens, Closing::List) {
-        return Ok((items, end));
+        return Ok((Vec::new(alloc), end));
     }
     if let Some(behind) = after(text, tokens, Mark::Comma) {
         return Err(misfit(behind));
     }
+    let mut items = Vec::new(alloc);
     let mut rest = tokens;
     loop {
         let (access, item_tokens) = access_at(text, rest);
-        let (item, item_end) = expression(alloc, text, item_tokens, room - 1)?;
-        items.push((access, item))?;
+        let item = expression(alloc, text, item_tokens, room - 1);
+        let (grown, item_end) = phrase::pushed(items, phrase::pair(access, item))?;
         if let Some(end) = end_at(text, item_end, Closing::List) {
-            return Ok((items, end));
+            return Ok((grown, end));
         }
         let Some(behind) = after(text, item_end, Mark::Comma) else {
             return Err(misfit(item_end));
         };
+        items = grown;
         rest = behind;
     }
 }
@@ -334,28 +332,42 @@ fn entries<'a>(
     if room == 0 {
         return Err(too_deep(tokens));
     }
-    let mut entries = Vec::new(alloc);
     if let Some(end) = end_at(text, tokens, Closing::Map) {
-        return Ok((entries, end));
+        return Ok((Vec::new(alloc), end));
     }
     if let Some(behind) = after(text, tokens, Mark::Comma) {
         return Err(misfit(behind));
     }
+    let mut entries = Vec::new(alloc);
     let mut rest = tokens;
     loop {
-        let (access, key_tokens) = access_at(text, rest);
-        let (key, key_end) = expression(alloc, text, key_tokens, room - 1)?;
-        let Some(value_tokens) = after(text, key_end, Mark::Colon) else {
-            return Err(misfit(key_end));
-        };
-        let (value, value_end) = expression(alloc, text, value_tokens, room - 1)?;
-        entries.push((access, key, value))?;
-        if let Some(end) = end_at(text, value_end, Closing::Map) {
-            return Ok((entries, end));
+        let entry = entry(alloc, text, rest, room - 1);
+        let (grown, entry_end) = phrase::pushed(entries, entry)?;
+        if let Some(end) = end_at(text, entry_end, Closing::Map) {
+            return Ok((grown, end));
         }
-        let Some(behind) = after(text, value_end, Mark::Comma) else {
-            return Err(misfit(value_end));
+        let Some(behind) = after(text, entry_end, Mark::Comma) else {
+            return Err(misfit(entry_end));
         };
+        entries = grown;
         rest = behind;
     }
+}
+
+/// A key, a colon and a value, after a question mark if there is one.
+#[cycle(reader)]
+fn entry<'a>(
+    alloc: Global,
+    text: &'a [u8],
+    tokens: &'a [Token],
+    room: u8,
+) -> Read<'a, (Access, Wide, Wide)>
+    ensures reads { (before : List (Access × Tree × Tree)) → Leads result (λ x o. WideStepReads (BehindEntry (before ++ entry_view x.0 ∷ [])) room (words text.now x.1.now) o) (WideStepReads (Entry before) room (words text.now tokens.now)) }
+    ensures shorter { IfOk result (λ x. length x.1.now < length tokens.now) }
+{
+    let (access, key_tokens) = access_at(text, tokens);
+    let key = expression(alloc, text, key_tokens, room);
+    let (key, value_tokens) = phrase::up_to(text, Mark::Colon, key)?;
+    let value = expression(alloc, text, value_tokens, room);
+    phrase::entry(access, key, value)
 }

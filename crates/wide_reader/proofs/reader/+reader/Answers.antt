@@ -1,72 +1,99 @@
 -- Proof obligations of the functions of the cycle `reader` (src/reader.rt).
-use Rattle.wide_reader.proofs.Prelude.{[], arith, refl, Comma, view, item_view, entry_view, words, this_mark, this_name, this_literal, this_operator, Unary, Member, Primary, Refused, WideStepReads, Row, Selection, Enclosed, Argument, Item, Entry, index_after, item_after, entry_after, stands, unfit, goes, fails, calls, missing, passes, Call, Map}
+use Rattle.wide_reader.proofs.Prelude.{[], ◌∷◌, ◌++◌, arith, refl, Comma, Or, view, item_view, entry_view, ◌≤◌, length, wides, words, this_mark, this_name, this_literal, this_operator, method_of, call_of, Expression, Infix, Unary, Member, Primary, One, Got, Refused, Misfit, call, done, go, whole, keyed, WideStepReads, Row, Enclosed, Argument, Item, Entry, BehindEntry, Plain, index_after, item_after, entry_after, stands, unfit, goes, fails, calls, missing, passes, Call, Map}
+use Rattle.wide_reader.specs.Tree as tree
 use Rattle.wide_reader.specs.declared.closing.Closing.TheVariants.{List as ListLiteral}
 use Rattle.wide_reader.proofs.Looks.{other_one}
 use Rattle.wide_reader.proofs.Lists.{in_any, behind_ends, behind_misfit, behind_goes, list_empty, list_goes, list_comma}
+use Rattle.wide_reader.proofs.Parts.{led, leads_on, leads_refused, led_fails, led_then, built, built_within, built_fails, built_then, part_of, part_fails, part_then}
 use Rattle.wide_reader.proofs.Steps.{accessed, full_at, opened_at, found_at, enters_at, unary_at, pushed, misfit_left, deep_left, refused, hand}
 use Rattle.wide_reader.proofs.Selections.{by_quoted, by_none, by_optional, by_plain}
 use Rattle.wide_reader.proofs.Prefixes.{prefixed_refused, prefixed_read}
 use Rattle.wide_reader.proofs.reader.+reader.Goals as goal
 
+pub branches-expression-no-requires : goal.branches-expression-no-requires
+branches-expression-no-requires t c = let s = c.in_ok-yes.ensures.shorter _ c.infix-yes.ensures.shorter in (omega (arith, c.decreases, s), tt)
+
+pub branches-returns-then-room-eq0-clause-reads : goal.branches-returns-then-room-eq0-clause-reads
+branches-returns-then-room-eq0-clause-reads t c a = rw c.too_deep.ensures (deep_left _ _ _ (full_at c.if-room-eq0.true))
+
+pub branches-returns-in_err-yes-clause-reads : goal.branches-returns-in_err-yes-clause-reads
+branches-returns-in_err-yes-clause-reads t c a =
+    refused _ _ _ _ _ c.from_residual.ensures.1 (c.in_err-yes.ensures.reads whole (Row (Infix Or)) (λ b. call (Row Expression) (λ d. done (tree.ternary a b d))) _ _ c.infix-yes.ensures.reads)
+    (λ k y. opened_at c.if-room-eq0.false y)
+
+pub branches-returns-clause-reads : goal.branches-returns-clause-reads
+branches-returns-clause-reads t c a =
+    let l = c.in_ok-yes.ensures.reads whole (Row (Infix Or)) (λ b. call (Row Expression) (λ d. done (tree.ternary a b d))) _ _ c.infix-yes.ensures.reads in
+    built _ _ c.expression-no.result _ _ _ _ c.pair.ensures c.expression-no.ensures.reads (λ k y. opened_at c.if-room-eq0.false (l _ (fails y)))
+    (λ x y b p. rw (b.0, b.1, b.2) (opened_at c.if-room-eq0.false (l _ (calls _ p stands))))
+
+pub branches-returns-clause-shorter : goal.branches-returns-clause-shorter
+branches-returns-clause-shorter t c =
+    let s = c.in_ok-yes.ensures.shorter _ c.infix-yes.ensures.shorter in
+    built_within c.expression-no.result _ _ _ _ c.pair.ensures c.expression-no.ensures.shorter (λ x y b m. rw (b.2) (omega (arith, m, s)))
+
 pub enclosed-returns-then-room-eq0-clause-reads : goal.enclosed-returns-then-room-eq0-clause-reads
 enclosed-returns-then-room-eq0-clause-reads t c = rw c.too_deep.ensures (deep_left _ _ _ (goes (full_at c.if-room-eq0.true)))
 
-pub enclosed-returns-in_err-inner-clause-reads : goal.enclosed-returns-in_err-inner-clause-reads
-enclosed-returns-in_err-inner-clause-reads t c =
-    refused _ _ _ _ _ c.from_residual.ensures.1 c.in_err-inner.ensures.reads (λ k y. goes (opened_at c.if-room-eq0.false (fails y)))
-
-pub enclosed-returns-in_default-clause-reads : goal.enclosed-returns-in_default-clause-reads
-enclosed-returns-in_default-clause-reads t c =
-    rw c.misfit.ensures (misfit_left _ _ _ (goes (opened_at c.if-room-eq0.false (calls _ c.in_ok-inner.ensures.reads (missing c.in_default.ensures.at unfit)))))
-
 pub enclosed-returns-clause-reads : goal.enclosed-returns-clause-reads
-enclosed-returns-clause-reads t c = goes (opened_at c.if-room-eq0.false (calls _ c.in_ok-inner.ensures.reads (found_at c.in-Some.ensures.at this_mark stands)))
+enclosed-returns-clause-reads t c =
+    led _ _ _ _ _ (c.up_to.ensures.reads whole (Row Expression) (λ a. done a) _ _ c.expression-inner.ensures.reads) (λ o y. goes (opened_at c.if-room-eq0.false y)) (λ x. stands)
+
+pub enclosed-returns-clause-shorter : goal.enclosed-returns-clause-shorter
+enclosed-returns-clause-shorter t c = c.up_to.ensures.shorter _ c.expression-inner.ensures.shorter
 
 pub entries-returns-then-room-eq0-clause-reads : goal.entries-returns-then-room-eq0-clause-reads
 entries-returns-then-room-eq0-clause-reads t c = rw c.too_deep.ensures (deep_left _ _ _ (goes (full_at c.if-room-eq0.true)))
 
 pub entries-returns-in-Some-clause-reads : goal.entries-returns-in-Some-clause-reads
 entries-returns-in-Some-clause-reads t c =
-    rw c.new-entries.ensures.items (goes (opened_at c.if-room-eq0.false (list_empty Map [] (Entry []) c.in-Some.ensures.at)))
+    rw c.new.ensures.items (goes (opened_at c.if-room-eq0.false (list_empty Map [] (Entry []) c.in-Some.ensures.at)))
 
 pub entries-returns-in-Some-after-clause-reads : goal.entries-returns-in-Some-after-clause-reads
 entries-returns-in-Some-after-clause-reads t c = rw c.misfit.ensures (misfit_left _ _ _ (goes (opened_at c.if-room-eq0.false (list_comma Map []
     (Entry []) _ refl c.in_default.ensures.at c.in-Some-after.ensures.at))))
 
-pub entries-loop-entries-init : goal.entries-loop-entries-init
-entries-loop-entries-init t c = rw c.new-entries.ensures.items (record {
+pub entries-loop-grown-init : goal.entries-loop-grown-init
+entries-loop-grown-init t c = rw c.new-entries.ensures.items (record {
   goes = λ o x. goes (opened_at c.if-room-eq0.false (list_goes Map [] (Entry []) c.in_default.ensures.at (in_any Map Comma _ c.in_default-after.ensures.at) x));
   within = omega arith;
 })
 
-pub entries-returns-in_err-key-clause-reads : goal.entries-returns-in_err-key-clause-reads
-entries-returns-in_err-key-clause-reads t c =
-    refused _ _ _ _ _ c.from_residual.ensures.1 c.in_err-key.ensures.reads (λ k y. c.loop-entries.invariant.goes (Refused k) (goes (accessed (entry_after _) _ c.access_at-access.ensures.at (fails y))))
-
-pub entries-returns-in_default-after-2-clause-reads : goal.entries-returns-in_default-after-2-clause-reads
-entries-returns-in_default-after-2-clause-reads t c = rw c.misfit-in_default-after-2.ensures (misfit_left _ _ _ (c.loop-entries.invariant.goes _ (goes
-    (accessed (entry_after _) _ c.access_at-access.ensures.at (calls _ c.in_ok-key.ensures.reads (missing c.in_default-after-2.ensures.at unfit))))))
-
-pub entries-returns-in_err-value-clause-reads : goal.entries-returns-in_err-value-clause-reads
-entries-returns-in_err-value-clause-reads t c = refused _ _ _ _ _ c.from_residual-in_err-value.ensures.1 c.in_err-value.ensures.reads
-    (λ k y. c.loop-entries.invariant.goes (Refused k) (goes (accessed (entry_after _) _ c.access_at-access.ensures.at (calls _ c.in_ok-key.ensures.reads (found_at c.in-Some-after-2.ensures.at this_mark (fails y))))))
+pub entries-returns-in_err-grown-clause-reads : goal.entries-returns-in_err-grown-clause-reads
+entries-returns-in_err-grown-clause-reads t c =
+    refused _ _ _ _ _ c.from_residual.ensures.1 (led_fails _ _ _ _ _ c.in_err-grown.ensures (c.entry-entry.ensures.reads _)) (λ k y. c.loop-grown.invariant.goes (Refused k) y)
 
 pub entries-returns-in-Some-end_at-clause-reads : goal.entries-returns-in-Some-end_at-clause-reads
-entries-returns-in-Some-end_at-clause-reads t c = rw (pushed entry_view _ _ _ c.in_ok-push.ensures.items) (c.loop-entries.invariant.goes _ (goes
-    (accessed (entry_after _) _ c.access_at-access.ensures.at (calls _ c.in_ok-key.ensures.reads (found_at c.in-Some-after-2.ensures.at this_mark (calls _ c.in_ok-value.ensures.reads (goes (behind_ends Map _
-    (Entry _) c.in-Some-end_at.ensures.at))))))))
+entries-returns-in-Some-end_at-clause-reads t c =
+    led_then c.entry-entry.result _ _ _ _ _ _ c.in_ok-grown.ensures (c.entry-entry.ensures.reads _) c.entry-entry.ensures.shorter
+    (λ x b l s. rw (pushed entry_view _ _ _ b.0) (c.loop-grown.invariant.goes _ (l _ (goes (behind_ends Map _ (Entry _) (rw (b.1) at c.in-Some-end_at.ensures.at))))))
 
-pub entries-returns-in_default-after-3-clause-reads : goal.entries-returns-in_default-after-3-clause-reads
-entries-returns-in_default-after-3-clause-reads t c = rw c.misfit-in_default-after-3.ensures (misfit_left _ _ _ (c.loop-entries.invariant.goes _ (goes
-    (accessed (entry_after _) _ c.access_at-access.ensures.at (calls _ c.in_ok-key.ensures.reads (found_at c.in-Some-after-2.ensures.at this_mark (calls _ c.in_ok-value.ensures.reads (goes (behind_misfit Map _
-    (Entry _) c.in_default-end_at.ensures.at c.in_default-after-3.ensures.at)))))))))
+pub entries-returns-in_default-after-2-clause-reads : goal.entries-returns-in_default-after-2-clause-reads
+entries-returns-in_default-after-2-clause-reads t c =
+    led_then c.entry-entry.result _ _ _ _ _ _ c.in_ok-grown.ensures (c.entry-entry.ensures.reads _) c.entry-entry.ensures.shorter
+    (λ x b l s. rw c.misfit-in_default-after-2.ensures (misfit_left _ _ _ (c.loop-grown.invariant.goes
+    (Refused (Misfit (words c.args.text.now c.in_ok-grown.entry_end.now))) (l _ (goes (rw (← b.1)
+    (behind_misfit Map _ (Entry _) c.in_default-end_at.ensures.at c.in_default-after-2.ensures.at)))))))
 
-pub entries-loop-entries-preserved : goal.entries-loop-entries-preserved
-entries-loop-entries-preserved t c = rw (pushed entry_view _ _ _ c.in_ok-push.ensures.items) (record {
-  goes = λ o x. c.loop-entries.invariant.goes o (goes (accessed (entry_after _) _ c.access_at-access.ensures.at (calls _ c.in_ok-key.ensures.reads (found_at c.in-Some-after-2.ensures.at this_mark
-      (calls _ c.in_ok-value.ensures.reads (goes (behind_goes Map _ (Entry _) c.in_default-end_at.ensures.at c.in-Some-after-3.ensures.at x)))))));
-  within = omega (arith, c.loop-entries.invariant.within, c.access_at-access.ensures.within, c.in_ok-key.ensures.shorter, c.in-Some-after-2.ensures.shorter, c.in_ok-value.ensures.shorter, c.in-Some-after-3.ensures.shorter);
-})
+pub entry-expression-value-requires : goal.entry-expression-value-requires
+entry-expression-value-requires t c = let s = c.in_ok-key.ensures.shorter _ c.expression-key.ensures.shorter in (omega (arith, c.decreases, s, c.access_at-access.ensures.within), tt)
+
+pub entry-returns-in_err-key-clause-reads : goal.entry-returns-in_err-key-clause-reads
+entry-returns-in_err-key-clause-reads t c pairs =
+    leads_refused _ _ _ _ _ c.from_residual.ensures.1 (c.in_err-key.ensures.reads keyed (Row Expression) (λ a. call (Row Expression) (λ b. go (BehindEntry (pairs ++ (c.access_at-access.result.0, a, b) ∷ [])))) _ _ c.expression-key.ensures.reads)
+    (λ k y. goes (accessed (entry_after _) _ c.access_at-access.ensures.at y))
+
+pub entry-returns-clause-reads : goal.entry-returns-clause-reads
+entry-returns-clause-reads t c pairs =
+    let l = c.in_ok-key.ensures.reads keyed (Row Expression) (λ a. call (Row Expression) (λ b. go (BehindEntry (pairs ++ (c.access_at-access.result.0, a, b) ∷ [])))) _ _ c.expression-key.ensures.reads in
+    leads_on _ c.expression-value.result _ _ _ _ _ c.entry.ensures c.expression-value.ensures.reads
+    (λ k y. goes (accessed (entry_after _) _ c.access_at-access.ensures.at (l _ (fails y))))
+    (λ x y b p o z. goes (accessed (entry_after _) _ c.access_at-access.ensures.at (l _ (calls _ p (rw (b.0, b.1) at z)))))
+
+pub entry-returns-clause-shorter : goal.entry-returns-clause-shorter
+entry-returns-clause-shorter t c =
+    let s = c.in_ok-key.ensures.shorter _ c.expression-key.ensures.shorter in
+    built_within c.expression-value.result _ _ _ _ c.entry.ensures c.expression-value.ensures.shorter (λ x y b m. rw (b.1) (omega (arith, m, s, c.access_at-access.ensures.within)))
 
 pub expression-returns-in_err-condition-clause-reads : goal.expression-returns-in_err-condition-clause-reads
 expression-returns-in_err-condition-clause-reads t c = refused _ _ _ _ _ c.from_residual.ensures.1 c.in_err-condition.ensures.reads (λ k y. goes (fails y))
@@ -74,27 +101,16 @@ expression-returns-in_err-condition-clause-reads t c = refused _ _ _ _ _ c.from_
 pub expression-returns-in_default-clause-reads : goal.expression-returns-in_default-clause-reads
 expression-returns-in_default-clause-reads t c = goes (calls _ c.in_ok-condition.ensures.reads (passes c.in_default.ensures.at stands))
 
-pub expression-returns-then-room-eq0-clause-reads : goal.expression-returns-then-room-eq0-clause-reads
-expression-returns-then-room-eq0-clause-reads t c =
-    rw c.too_deep.ensures (deep_left _ _ _ (goes (calls _ c.in_ok-condition.ensures.reads (enters_at c.in-Some.ensures.at (full_at c.if-room-eq0.true)))))
-
-pub expression-returns-in_err-yes-clause-reads : goal.expression-returns-in_err-yes-clause-reads
-expression-returns-in_err-yes-clause-reads t c = refused _ _ _ _ _ c.from_residual-in_err-yes.ensures.1 c.in_err-yes.ensures.reads (λ k y. goes
-    (calls _ c.in_ok-condition.ensures.reads (enters_at c.in-Some.ensures.at (opened_at c.if-room-eq0.false (fails y)))))
-
-pub expression-returns-in_default-after-clause-reads : goal.expression-returns-in_default-after-clause-reads
-expression-returns-in_default-after-clause-reads t c = rw c.misfit.ensures (misfit_left _ _ _ (goes (calls _ c.in_ok-condition.ensures.reads
-    (enters_at c.in-Some.ensures.at (opened_at c.if-room-eq0.false (calls _ c.in_ok-yes.ensures.reads (missing c.in_default-after.ensures.at unfit)))))))
-
-pub expression-returns-in_err-no-clause-reads : goal.expression-returns-in_err-no-clause-reads
-expression-returns-in_err-no-clause-reads t c = refused _ _ _ _ _ c.from_residual-in_err-no.ensures.1 c.in_err-no.ensures.reads (λ k y. goes
-    (calls _ c.in_ok-condition.ensures.reads (enters_at c.in-Some.ensures.at (opened_at c.if-room-eq0.false (calls _ c.in_ok-yes.ensures.reads
-    (found_at c.in-Some-after.ensures.at this_mark (fails y)))))))
-
 pub expression-returns-clause-reads : goal.expression-returns-clause-reads
-expression-returns-clause-reads t c = rw c.in_ok-ternary.ensures (goes (calls _ c.in_ok-condition.ensures.reads (enters_at c.in-Some.ensures.at
-    (opened_at c.if-room-eq0.false (calls _ c.in_ok-yes.ensures.reads (found_at c.in-Some-after.ensures.at this_mark
-    (calls _ c.in_ok-no.ensures.reads stands)))))))
+expression-returns-clause-reads t c =
+    built _ _ c.branches-branches.result _ _ _ _ c.ternary.ensures (c.branches-branches.ensures.reads _)
+    (λ k y. goes (calls _ c.in_ok-condition.ensures.reads (enters_at c.in-Some.ensures.at y)))
+    (λ x y b p. rw (b.0, b.1) (goes (calls _ c.in_ok-condition.ensures.reads (enters_at c.in-Some.ensures.at p))))
+
+pub expression-returns-clause-shorter : goal.expression-returns-clause-shorter
+expression-returns-clause-shorter t c =
+    built_within c.branches-branches.result _ _ _ _ c.ternary.ensures c.branches-branches.ensures.shorter
+    (λ x y b s. rw (b.1) (omega (arith, s, c.in-Some.ensures.shorter, c.in_ok-condition.ensures.shorter)))
 
 pub infix-returns-in_err-left-clause-reads : goal.infix-returns-in_err-left-clause-reads
 infix-returns-in_err-left-clause-reads t c = refused _ _ _ _ _ c.from_residual.ensures.1 c.in_err-left.ensures.reads (λ k y. goes (fails y))
@@ -102,17 +118,17 @@ infix-returns-in_err-left-clause-reads t c = refused _ _ _ _ _ c.from_residual.e
 pub infix-loop-operator-init : goal.infix-loop-operator-init
 infix-loop-operator-init t c = record { goes = λ o x. goes (calls _ c.in_ok-left.ensures.reads x); shorter = c.in_ok-left.ensures.shorter }
 
-pub infix-returns-in_err-right-clause-reads : goal.infix-returns-in_err-right-clause-reads
-infix-returns-in_err-right-clause-reads t c = refused _ _ _ _ _ c.from_residual-in_err-right.ensures.1 c.in_err-right.ensures.reads
-    (λ k y. c.loop-operator.invariant.goes (Refused k) (goes (found_at c.in-Some.ensures.at.3 (this_operator c.in-Some.ensures.at.1 c.in-Some.ensures.at.2)
-    (fails y))))
+pub infix-returns-in_err-joined-clause-reads : goal.infix-returns-in_err-joined-clause-reads
+infix-returns-in_err-joined-clause-reads t c =
+    refused _ _ _ _ _ c.from_residual-in_err-joined.ensures.1 (built_fails _ _ _ _ _ c.in_err-joined.ensures c.operand-right.ensures.reads)
+    (λ k y. c.loop-operator.invariant.goes (Refused k) (goes (found_at c.in-Some.ensures.at.3 (this_operator c.in-Some.ensures.at.1 c.in-Some.ensures.at.2) (fails y))))
 
 pub infix-loop-operator-preserved : goal.infix-loop-operator-preserved
-infix-loop-operator-preserved t c = rw c.in_ok-left-2.ensures (record {
-  goes = λ o x. c.loop-operator.invariant.goes o
-      (goes (found_at c.in-Some.ensures.at.3 (this_operator c.in-Some.ensures.at.1 c.in-Some.ensures.at.2) (calls _ c.in_ok-right.ensures.reads x)));
-  shorter = omega (arith, c.in-Some.ensures.shorter, c.in_ok-right.ensures.shorter);
-})
+infix-loop-operator-preserved t c =
+    built_then _ c.operand-right.result _ _ _ _ _ c.in_ok-joined.ensures c.operand-right.ensures.reads c.operand-right.ensures.shorter (λ x b p s. rw (b.0, b.1) (record {
+      goes = λ o z. c.loop-operator.invariant.goes o (goes (found_at c.in-Some.ensures.at.3 (this_operator c.in-Some.ensures.at.1 c.in-Some.ensures.at.2) (calls _ p z)));
+      shorter = omega (arith, c.in-Some.ensures.shorter, s);
+    }))
 
 pub infix-returns-clause-reads : goal.infix-returns-clause-reads
 infix-returns-clause-reads t c = c.loop-operator.invariant.goes _ (goes (missing c.in_default.ensures.at stands))
@@ -121,82 +137,96 @@ pub items-returns-then-room-eq0-clause-reads : goal.items-returns-then-room-eq0-
 items-returns-then-room-eq0-clause-reads t c = rw c.too_deep.ensures (deep_left _ _ _ (goes (full_at c.if-room-eq0.true)))
 
 pub items-returns-in-Some-clause-reads : goal.items-returns-in-Some-clause-reads
-items-returns-in-Some-clause-reads t c = rw c.new-items.ensures.items (goes (opened_at c.if-room-eq0.false (list_empty ListLiteral [] (Item []) c.in-Some.ensures.at)))
+items-returns-in-Some-clause-reads t c = rw c.new.ensures.items (goes (opened_at c.if-room-eq0.false (list_empty ListLiteral [] (Item []) c.in-Some.ensures.at)))
 
 pub items-returns-in-Some-after-clause-reads : goal.items-returns-in-Some-after-clause-reads
 items-returns-in-Some-after-clause-reads t c = rw c.misfit.ensures (misfit_left _ _ _ (goes (opened_at c.if-room-eq0.false (list_comma ListLiteral []
     (Item []) _ refl c.in_default.ensures.at c.in-Some-after.ensures.at))))
 
-pub items-loop-items-init : goal.items-loop-items-init
-items-loop-items-init t c = rw c.new-items.ensures.items (record {
+pub items-loop-grown-init : goal.items-loop-grown-init
+items-loop-grown-init t c = rw c.new-items.ensures.items (record {
   goes = λ o x. goes (opened_at c.if-room-eq0.false (list_goes ListLiteral [] (Item []) c.in_default.ensures.at (in_any ListLiteral Comma _ c.in_default-after.ensures.at) x));
   within = omega arith;
 })
 
-pub items-returns-in_err-item-clause-reads : goal.items-returns-in_err-item-clause-reads
-items-returns-in_err-item-clause-reads t c =
-    refused _ _ _ _ _ c.from_residual.ensures.1 c.in_err-item.ensures.reads (λ k y. c.loop-items.invariant.goes (Refused k) (goes (accessed (item_after _) _ c.access_at-access.ensures.at (fails y))))
+pub items-returns-in_err-grown-clause-reads : goal.items-returns-in_err-grown-clause-reads
+items-returns-in_err-grown-clause-reads t c =
+    refused _ _ _ _ _ c.from_residual.ensures.1 (part_fails _ c.expression-item.result c.pair.result _ _ _ _ c.in_err-grown.ensures c.pair.ensures c.expression-item.ensures.reads)
+    (λ k y. c.loop-grown.invariant.goes (Refused k) (goes (accessed (item_after _) _ c.access_at-access.ensures.at (fails y))))
 
 pub items-returns-in-Some-end_at-clause-reads : goal.items-returns-in-Some-end_at-clause-reads
-items-returns-in-Some-end_at-clause-reads t c = rw (pushed item_view _ _ _ c.in_ok-push.ensures.items) (c.loop-items.invariant.goes _ (goes
-    (accessed (item_after _) _ c.access_at-access.ensures.at (calls _ c.in_ok-item.ensures.reads (goes (behind_ends ListLiteral _ (Item _) c.in-Some-end_at.ensures.at))))))
+items-returns-in-Some-end_at-clause-reads t c =
+    part_then _ c.expression-item.result c.pair.result _ _ _ _ _ c.in_ok-grown.ensures c.pair.ensures c.expression-item.ensures.reads c.expression-item.ensures.shorter
+    (λ x y w b p s. rw (rw (w.0, w.1) at (pushed item_view _ _ _ b.0)) (c.loop-grown.invariant.goes _ (goes (accessed (item_after _) _ c.access_at-access.ensures.at (calls _ (rw (← w.2, ← b.1) at p) (goes (behind_ends ListLiteral _ (Item _) c.in-Some-end_at.ensures.at)))))))
 
 pub items-returns-in_default-after-2-clause-reads : goal.items-returns-in_default-after-2-clause-reads
-items-returns-in_default-after-2-clause-reads t c = rw c.misfit-in_default-after-2.ensures (misfit_left _ _ _ (c.loop-items.invariant.goes _ (goes
-    (accessed (item_after _) _ c.access_at-access.ensures.at (calls _ c.in_ok-item.ensures.reads (goes (behind_misfit ListLiteral _ (Item _) c.in_default-end_at.ensures.at c.in_default-after-2.ensures.at)))))))
-
-pub items-loop-items-preserved : goal.items-loop-items-preserved
-items-loop-items-preserved t c = rw (pushed item_view _ _ _ c.in_ok-push.ensures.items) (record {
-  goes = λ o x. c.loop-items.invariant.goes o
-      (goes (accessed (item_after _) _ c.access_at-access.ensures.at (calls _ c.in_ok-item.ensures.reads (goes (behind_goes ListLiteral _ (Item _) c.in_default-end_at.ensures.at c.in-Some-after-2.ensures.at x)))));
-  within = omega (arith, c.loop-items.invariant.within, c.access_at-access.ensures.within, c.in_ok-item.ensures.shorter, c.in-Some-after-2.ensures.shorter);
-})
+items-returns-in_default-after-2-clause-reads t c =
+    part_then _ c.expression-item.result c.pair.result _ _ _ _ _ c.in_ok-grown.ensures c.pair.ensures c.expression-item.ensures.reads c.expression-item.ensures.shorter
+    (λ x y w b p s. rw c.misfit-in_default-after-2.ensures (misfit_left _ _ _ (c.loop-grown.invariant.goes _ (goes (accessed (item_after _) _ c.access_at-access.ensures.at (calls _ (rw (← w.2, ← b.1) at p) (goes
+    (behind_misfit ListLiteral _ (Item _) c.in_default-end_at.ensures.at c.in_default-after-2.ensures.at))))))))
 
 pub arguments-returns-then-room-eq0-clause-reads : goal.arguments-returns-then-room-eq0-clause-reads
 arguments-returns-then-room-eq0-clause-reads t c = rw c.too_deep.ensures (deep_left _ _ _ (goes (full_at c.if-room-eq0.true)))
 
 pub arguments-returns-in-Some-clause-reads : goal.arguments-returns-in-Some-clause-reads
-arguments-returns-in-Some-clause-reads t c = rw c.new-arguments.ensures.items (goes (opened_at c.if-room-eq0.false (list_empty Call [] (Argument []) c.in-Some.ensures.at)))
+arguments-returns-in-Some-clause-reads t c = rw c.new.ensures.items (goes (opened_at c.if-room-eq0.false (list_empty Call [] (Argument []) c.in-Some.ensures.at)))
 
-pub arguments-loop-arguments-init : goal.arguments-loop-arguments-init
-arguments-loop-arguments-init t c = rw c.new-arguments.ensures.items (record {
+pub arguments-loop-grown-init : goal.arguments-loop-grown-init
+arguments-loop-grown-init t c = rw c.new-arguments.ensures.items (record {
   goes = λ o x. goes (opened_at c.if-room-eq0.false (list_goes Call [] (Argument []) c.in_default.ensures.at (other_one Call Comma _ refl) x));
   within = omega arith;
 })
 
-pub arguments-returns-in_err-argument-clause-reads : goal.arguments-returns-in_err-argument-clause-reads
-arguments-returns-in_err-argument-clause-reads t c =
-    refused _ _ _ _ _ c.from_residual.ensures.1 c.in_err-argument.ensures.reads (λ k y. c.loop-arguments.invariant.goes (Refused k) (goes (fails y)))
+pub arguments-returns-in_err-grown-clause-reads : goal.arguments-returns-in_err-grown-clause-reads
+arguments-returns-in_err-grown-clause-reads t c =
+    refused _ _ _ _ _ c.from_residual.ensures.1 (built_fails _ _ _ _ _ c.in_err-grown.ensures c.expression-argument.ensures.reads)
+    (λ k y. c.loop-grown.invariant.goes (Refused k) (goes (fails y)))
 
 pub arguments-returns-in-Some-end_at-clause-reads : goal.arguments-returns-in-Some-end_at-clause-reads
-arguments-returns-in-Some-end_at-clause-reads t c = rw (pushed view _ _ _ c.in_ok-push.ensures.items) (c.loop-arguments.invariant.goes _ (goes
-    (calls _ c.in_ok-argument.ensures.reads (goes (behind_ends Call _ (Argument _) c.in-Some-end_at.ensures.at)))))
+arguments-returns-in-Some-end_at-clause-reads t c =
+    built_then _ c.expression-argument.result _ _ _ _ _ c.in_ok-grown.ensures c.expression-argument.ensures.reads c.expression-argument.ensures.shorter
+    (λ x b p s. rw (pushed view _ _ _ b.0) (c.loop-grown.invariant.goes _ (goes (calls _ p (goes (behind_ends Call _ (Argument _)
+    (rw (b.1) at c.in-Some-end_at.ensures.at)))))))
 
 pub arguments-returns-in_default-after-clause-reads : goal.arguments-returns-in_default-after-clause-reads
-arguments-returns-in_default-after-clause-reads t c = rw c.misfit.ensures (misfit_left _ _ _ (c.loop-arguments.invariant.goes _ (goes
-    (calls _ c.in_ok-argument.ensures.reads (goes (behind_misfit Call _ (Argument _) c.in_default-end_at.ensures.at c.in_default-after.ensures.at))))))
+arguments-returns-in_default-after-clause-reads t c =
+    built_then _ c.expression-argument.result _ _ _ _ _ c.in_ok-grown.ensures c.expression-argument.ensures.reads c.expression-argument.ensures.shorter
+    (λ x b p s. let q = rw (← b.1) at p in rw c.misfit.ensures (misfit_left _ _ _ (c.loop-grown.invariant.goes _ (goes (calls _ q (goes
+    (behind_misfit Call _ (Argument _) c.in_default-end_at.ensures.at c.in_default-after.ensures.at)))))))
 
-pub arguments-loop-arguments-preserved : goal.arguments-loop-arguments-preserved
-arguments-loop-arguments-preserved t c = rw (pushed view _ _ _ c.in_ok-push.ensures.items) (record {
-  goes = λ o x. c.loop-arguments.invariant.goes o
-      (goes (calls _ c.in_ok-argument.ensures.reads (goes (behind_goes Call _ (Argument _) c.in_default-end_at.ensures.at c.in-Some-after.ensures.at x))));
-  within = omega (arith, c.loop-arguments.invariant.within, c.in_ok-argument.ensures.shorter, c.in-Some-after.ensures.shorter);
-})
+pub arguments-loop-grown-preserved : goal.arguments-loop-grown-preserved
+arguments-loop-grown-preserved t c =
+    built_then _ c.expression-argument.result _ _ _ _ _ c.in_ok-grown.ensures c.expression-argument.ensures.reads c.expression-argument.ensures.shorter
+    (λ x b p s. rw (pushed view _ _ _ b.0) (record {
+      goes = λ o z. c.loop-grown.invariant.goes o (goes (calls _ p (goes (rw (← b.1) (behind_goes Call _ (Argument _) c.in_default-end_at.ensures.at
+          c.in-Some-after.ensures.at z)))));
+      within = omega (arith, c.loop-grown.invariant.within, rw (← b.1) at s, c.in-Some-after.ensures.shorter);
+    }))
 
 pub indexed-returns-then-room-eq0-clause-reads : goal.indexed-returns-then-room-eq0-clause-reads
-indexed-returns-then-room-eq0-clause-reads t c = rw c.too_deep.ensures (deep_left _ _ _ (goes (full_at c.if-room-eq0.true)))
-
-pub indexed-returns-in_err-at-clause-reads : goal.indexed-returns-in_err-at-clause-reads
-indexed-returns-in_err-at-clause-reads t c =
-    refused _ _ _ _ _ c.from_residual.ensures.1 c.in_err-at.ensures.reads (λ k y. goes (opened_at c.if-room-eq0.false (accessed (index_after _) _ c.access_at-access.ensures.at (fails y))))
-
-pub indexed-returns-in_default-clause-reads : goal.indexed-returns-in_default-clause-reads
-indexed-returns-in_default-clause-reads t c =
-    rw c.misfit.ensures (misfit_left _ _ _ (goes (opened_at c.if-room-eq0.false (accessed (index_after _) _ c.access_at-access.ensures.at (calls _ c.in_ok-at.ensures.reads (missing c.in_default.ensures.at unfit))))))
+indexed-returns-then-room-eq0-clause-reads t c a = rw c.too_deep.ensures (deep_left _ _ _ (goes (full_at c.if-room-eq0.true)))
 
 pub indexed-returns-clause-reads : goal.indexed-returns-clause-reads
-indexed-returns-clause-reads t c =
-    rw c.in_ok-index.ensures (goes (opened_at c.if-room-eq0.false (accessed (index_after _) _ c.access_at-access.ensures.at (calls _ c.in_ok-at.ensures.reads (found_at c.in-Some.ensures.at this_mark stands)))))
+indexed-returns-clause-reads t c a =
+    built _ _ c.up_to.result _ _ _ _ c.pair.ensures (led (λ x. Got (One (tree.index a c.access_at-access.result.0 (view x.0))) (words c.args.text.now x.1.now)) _ _ _ _
+    (c.up_to.ensures.reads whole (Row Expression) (λ b. done (tree.index a c.access_at-access.result.0 b)) _ _ c.expression-at.ensures.reads) (λ o y. y) (λ x. stands))
+    (λ k y. (goes (opened_at c.if-room-eq0.false (accessed (index_after _) _ c.access_at-access.ensures.at y))))
+    (λ x y b p. rw (b.0, b.1, b.2) (goes (opened_at c.if-room-eq0.false (accessed (index_after _) _ c.access_at-access.ensures.at p))))
+
+pub indexed-returns-clause-shorter : goal.indexed-returns-clause-shorter
+indexed-returns-clause-shorter t c =
+    built_within c.up_to.result _ _ _ _ c.pair.ensures (c.up_to.ensures.shorter _ c.expression-at.ensures.shorter)
+    (λ x y b s. rw (b.2) (omega (arith, s, c.access_at-access.ensures.within)))
+
+pub maybe_arguments-returns-in_default-clause-reads : goal.maybe_arguments-returns-in_default-clause-reads
+maybe_arguments-returns-in_default-clause-reads t c a of = passes c.in_default.ensures.at stands
+
+pub maybe_arguments-returns-in_err-arguments-clause-reads : goal.maybe_arguments-returns-in_err-arguments-clause-reads
+maybe_arguments-returns-in_err-arguments-clause-reads t c a of =
+    refused _ _ _ _ _ c.from_residual.ensures.1 c.in_err-arguments.ensures.reads (λ k y. enters_at c.in-Some.ensures.at (fails y))
+
+pub maybe_arguments-returns-clause-reads : goal.maybe_arguments-returns-clause-reads
+maybe_arguments-returns-clause-reads t c a of = enters_at c.in-Some.ensures.at (calls _ c.in_ok-arguments.ensures.reads stands)
 
 pub member-returns-in_err-tree-clause-reads : goal.member-returns-in_err-tree-clause-reads
 member-returns-in_err-tree-clause-reads t c = refused _ _ _ _ _ c.from_residual.ensures.1 c.in_err-tree.ensures.reads (λ k y. goes (fails y))
@@ -205,107 +235,62 @@ pub member-loop-behind-init : goal.member-loop-behind-init
 member-loop-behind-init t c = record { goes = λ o x. goes (calls _ c.in_ok-tree.ensures.reads x); shorter = c.in_ok-tree.ensures.shorter }
 
 pub member-returns-in_err-selected-clause-reads : goal.member-returns-in_err-selected-clause-reads
-member-returns-in_err-selected-clause-reads t c = refused _ _ _ _ _ c.from_residual-in_err-selected.ensures.1 c.in_err-selected.ensures.reads
+member-returns-in_err-selected-clause-reads t c =
+    refused _ _ _ _ _ c.from_residual-in_err-selected.ensures.1 (built_fails _ _ _ _ _ c.in_err-selected.ensures (c.selection-named.ensures.reads _))
     (λ k y. c.loop-behind.invariant.goes (Refused k) (goes (found_at c.in-Some.ensures.at this_mark (fails y))))
 
 pub member-loop-behind-preserved-in-Some : goal.member-loop-behind-preserved-in-Some
-member-loop-behind-preserved-in-Some t c = record {
-  goes = λ o x. c.loop-behind.invariant.goes o (goes (found_at c.in-Some.ensures.at this_mark (calls _ c.in_ok-selected.ensures.reads x)));
-  shorter = omega (arith, c.in-Some.ensures.shorter, c.in_ok-selected.ensures.shorter);
-}
+member-loop-behind-preserved-in-Some t c =
+    built_then _ c.selection-named.result _ _ _ _ _ c.in_ok-selected.ensures (c.selection-named.ensures.reads _) c.selection-named.ensures.shorter (λ x b p s. rw (b.0, b.1) (record {
+      goes = λ o z. c.loop-behind.invariant.goes o (goes (found_at c.in-Some.ensures.at this_mark (calls _ p z)));
+      shorter = omega (arith, c.in-Some.ensures.shorter, s);
+    }))
 
 pub member-returns-in_err-indexed-clause-reads : goal.member-returns-in_err-indexed-clause-reads
-member-returns-in_err-indexed-clause-reads t c = refused _ _ _ _ _ c.from_residual-in_err-indexed.ensures.1 c.in_err-indexed.ensures.reads
+member-returns-in_err-indexed-clause-reads t c =
+    refused _ _ _ _ _ c.from_residual-in_err-indexed.ensures.1 (built_fails _ _ _ _ _ c.in_err-indexed.ensures (c.indexed-at.ensures.reads _))
     (λ k y. c.loop-behind.invariant.goes (Refused k) (goes (missing c.in_default.ensures.at (enters_at c.in-Some-after.ensures.at (fails y)))))
 
 pub member-loop-behind-preserved : goal.member-loop-behind-preserved
-member-loop-behind-preserved t c = record {
-  goes = λ o x. c.loop-behind.invariant.goes o
-      (goes (missing c.in_default.ensures.at (enters_at c.in-Some-after.ensures.at (calls _ c.in_ok-indexed.ensures.reads x))));
-  shorter = omega (arith, c.in-Some-after.ensures.shorter, c.in_ok-indexed.ensures.shorter);
-}
+member-loop-behind-preserved t c =
+    built_then _ c.indexed-at.result _ _ _ _ _ c.in_ok-indexed.ensures (c.indexed-at.ensures.reads _) c.indexed-at.ensures.shorter (λ x b p s. rw (b.0, b.1) (record {
+      goes = λ o z. c.loop-behind.invariant.goes o (goes (missing c.in_default.ensures.at (enters_at c.in-Some-after.ensures.at (calls _ p z))));
+      shorter = omega (arith, c.in-Some-after.ensures.shorter, s);
+    }))
 
 pub member-returns-in_default-after-clause-reads : goal.member-returns-in_default-after-clause-reads
 member-returns-in_default-after-clause-reads t c =
     c.loop-behind.invariant.goes _ (goes (missing c.in_default.ensures.at (passes c.in_default-after.ensures.at stands)))
 
-pub method-returns-in_default-clause-reads : goal.method-returns-in_default-clause-reads
-method-returns-in_default-clause-reads t c = rw c.in_ok-select.ensures (passes c.in_default.ensures.at stands)
-
-pub method-returns-in_err-arguments-clause-reads : goal.method-returns-in_err-arguments-clause-reads
-method-returns-in_err-arguments-clause-reads t c = refused _ _ _ _ _ c.from_residual-in_err-arguments.ensures.1 c.in_err-arguments.ensures.reads
-    (λ k y. enters_at c.in-Some.ensures.at (fails y))
-
-pub method-returns-clause-reads : goal.method-returns-clause-reads
-method-returns-clause-reads t c = rw c.in_ok-method.ensures (enters_at c.in-Some.ensures.at (calls _ c.in_ok-arguments.ensures.reads stands))
-
-pub called-returns-in_default-clause-reads : goal.called-returns-in_default-clause-reads
-called-returns-in_default-clause-reads t c = passes c.in_default.ensures.at stands
-
-pub called-returns-in_err-arguments-clause-reads : goal.called-returns-in_err-arguments-clause-reads
-called-returns-in_err-arguments-clause-reads t c = refused _ _ _ _ _ c.from_residual-in_err-arguments.ensures.1 c.in_err-arguments.ensures.reads
-    (λ k y. enters_at c.in-Some.ensures.at (fails y))
-
-pub called-returns-clause-reads : goal.called-returns-clause-reads
-called-returns-clause-reads t c = rw (c.call.ensures, c.in_ok-function.ensures) (enters_at c.in-Some.ensures.at (calls _ c.in_ok-arguments.ensures.reads stands))
-
 pub primary-returns-in-Some-clause-reads : goal.primary-returns-in-Some-clause-reads
 primary-returns-in-Some-clause-reads t c = hand _ _ (WideStepReads Enclosed c.args.room (words c.args.text.now c.in-Some.inside.now)) (WideStepReads
     (Row Primary) c.args.room (words c.args.text.now c.args.tokens.now)) (λ o m. goes (enters_at c.in-Some.ensures.at m)) c.enclosed.ensures.reads
 
-pub primary-returns-in_err-list-clause-reads : goal.primary-returns-in_err-list-clause-reads
-primary-returns-in_err-list-clause-reads t c = refused _ _ _ _ _ c.from_residual.ensures.1 c.in_err-list.ensures.reads (λ k y. goes
-    (passes c.in_default.ensures.at (enters_at c.in-Some-after.ensures.at (fails y))))
-
 pub primary-returns-in-Some-after-clause-reads : goal.primary-returns-in-Some-after-clause-reads
 primary-returns-in-Some-after-clause-reads t c =
-    rw c.list.ensures (goes (passes c.in_default.ensures.at (enters_at c.in-Some-after.ensures.at (calls _ c.in_ok-list.ensures.reads stands))))
+    built _ _ c.items-items.result _ _ _ _ c.list.ensures c.items-items.ensures.reads
+    (λ k y. goes (passes c.in_default.ensures.at (enters_at c.in-Some-after.ensures.at (fails y))))
+    (λ x y b p. rw (b.0, b.1) (goes (passes c.in_default.ensures.at (enters_at c.in-Some-after.ensures.at (calls _ p stands)))))
 
-pub primary-returns-in_err-map-clause-reads : goal.primary-returns-in_err-map-clause-reads
-primary-returns-in_err-map-clause-reads t c = refused _ _ _ _ _ c.from_residual-in_err-map.ensures.1 c.in_err-map.ensures.reads (λ k y. goes
-    (passes c.in_default.ensures.at (passes c.in_default-after.ensures.at (enters_at c.in-Some-after-2.ensures.at (fails y)))))
+pub primary-returns-in-Some-after-clause-shorter : goal.primary-returns-in-Some-after-clause-shorter
+primary-returns-in-Some-after-clause-shorter t c =
+    built_within c.items-items.result _ _ _ _ c.list.ensures c.items-items.ensures.shorter (λ x y b s. rw (b.1) (omega (arith, s, c.in-Some-after.ensures.shorter)))
 
 pub primary-returns-in-Some-after-2-clause-reads : goal.primary-returns-in-Some-after-2-clause-reads
-primary-returns-in-Some-after-2-clause-reads t c = rw c.map.ensures (goes (passes c.in_default.ensures.at (passes c.in_default-after.ensures.at
-    (enters_at c.in-Some-after-2.ensures.at (calls _ c.in_ok-map.ensures.reads stands)))))
+primary-returns-in-Some-after-2-clause-reads t c =
+    built _ _ c.entries-entries.result _ _ _ _ c.map.ensures c.entries-entries.ensures.reads
+    (λ k y. goes (passes c.in_default.ensures.at (passes c.in_default-after.ensures.at (enters_at c.in-Some-after-2.ensures.at (fails y)))))
+    (λ x y b p. rw (b.0, b.1) (goes (passes c.in_default.ensures.at (passes c.in_default-after.ensures.at (enters_at c.in-Some-after-2.ensures.at (calls _ p stands))))))
+
+pub primary-returns-in-Some-after-2-clause-shorter : goal.primary-returns-in-Some-after-2-clause-shorter
+primary-returns-in-Some-after-2-clause-shorter t c =
+    built_within c.entries-entries.result _ _ _ _ c.map.ensures c.entries-entries.ensures.shorter (λ x y b s. rw (b.1) (omega (arith, s, c.in-Some-after-2.ensures.shorter)))
 
 pub primary-returns-in-Some-2-clause-reads : goal.primary-returns-in-Some-2-clause-reads
 primary-returns-in-Some-2-clause-reads t c =
     let s = rw c.in-Some-2.is at c.in_ok-literal.ensures.at in
     goes (passes c.in_default.ensures.at (passes c.in_default-after.ensures.at (passes c.in_default-after-2.ensures.at (found_at s.1
     (this_literal s.2) stands))))
-
-pub unary-returns-in_default-clause-reads : goal.unary-returns-in_default-clause-reads
-unary-returns-in_default-clause-reads t c = hand _ _ (WideStepReads (Row Member) c.args.room (words c.args.text.now c.args.tokens.now)) (WideStepReads
-    (Row Unary) c.args.room (words c.args.text.now c.args.tokens.now)) (λ o m. goes (missing c.in_default.ensures.at.0
-    (missing c.in_default.ensures.at.1 m))) c.member.ensures.reads
-
-pub unary-returns-in_err-operand-clause-reads : goal.unary-returns-in_err-operand-clause-reads
-unary-returns-in_err-operand-clause-reads t c = refused _ _ _ _ _ c.from_residual.ensures.1 c.in_err-operand.ensures.reads
-    (λ k y. unary_at c.in-Some.operator c.in-Some.ensures.at (prefixed_refused c.prefixes-odd.ensures.at y))
-
-pub unary-returns-clause-reads : goal.unary-returns-clause-reads
-unary-returns-clause-reads t c = rw c.in_ok-applied.ensures (unary_at c.in-Some.operator c.in-Some.ensures.at
-    (prefixed_read c.prefixes-odd.ensures.at c.in_ok-operand.ensures.reads))
-
-pub selection-returns-in-Some-clause-reads : goal.selection-returns-in-Some-clause-reads
-selection-returns-in-Some-clause-reads t c =
-    rw (c.in_ok-select.ensures, c.in_ok-name.ensures) (by_quoted _ c.access_at-access.ensures.at c.in-Some.ensures.at.0 c.in-Some.ensures.at.1)
-
-pub selection-returns-in_default-selector_at-clause-reads : goal.selection-returns-in_default-selector_at-clause-reads
-selection-returns-in_default-selector_at-clause-reads t c =
-    rw c.misfit.ensures (misfit_left _ _ _ (by_none _ c.access_at-access.ensures.at c.in_default.ensures.at c.in_default-selector_at.ensures.at))
-
-pub selection-returns-in_ok-select-in-Optional-clause-reads : goal.selection-returns-in_ok-select-in-Optional-clause-reads
-selection-returns-in_ok-select-in-Optional-clause-reads t c =
-    let s = rw c.in-Optional.is at c.access_at-access.ensures.at in
-    rw (c.in_ok-select-in-Optional.ensures, c.in-Optional.is, c.in_ok-name-2.ensures) (by_optional s c.in-Some-selector_at.ensures.at.0 c.in-Some-selector_at.ensures.at.1)
-
-pub selection-returns-in-Plain-clause-reads : goal.selection-returns-in-Plain-clause-reads
-selection-returns-in-Plain-clause-reads t c =
-    let s = rw c.in-Plain.is at c.access_at-access.ensures.at in
-    hand _ _ _ (WideStepReads (Selection (view c.args.of)) c.args.room (words c.args.text.now c.args.tokens.now))
-    (λ o m. by_plain s c.in-Some-selector_at.ensures.at.0 c.in-Some-selector_at.ensures.at.1 m) (rw c.in_ok-name-2.ensures at c.method.ensures.reads)
 
 pub primary-returns-in_default-identifier_at-clause-reads : goal.primary-returns-in_default-identifier_at-clause-reads
 primary-returns-in_default-identifier_at-clause-reads t c =
@@ -316,9 +301,11 @@ primary-returns-in_default-identifier_at-clause-reads t c =
 pub primary-returns-in-Some-after-3-clause-reads : goal.primary-returns-in-Some-after-3-clause-reads
 primary-returns-in-Some-after-3-clause-reads t c =
     let s = rw c.in_default-2.is at c.in_ok-literal.ensures.at in
-    hand _ _ _ (WideStepReads (Row Primary) c.args.room (words c.args.text.now c.args.tokens.now)) (λ o m. goes (passes c.in_default.ensures.at
-    (passes c.in_default-after.ensures.at (passes c.in_default-after-2.ensures.at (missing s (found_at c.in-Some-after-3.ensures.at this_mark
-    (found_at c.in-Some-identifier_at.ensures.at.0 (this_name c.in-Some-identifier_at.ensures.at.1) m))))))) (rw (c.root-root.ensures, c.in_ok-name_of.ensures) at c.called.ensures.reads)
+    built _ _ c.maybe_arguments-arguments.result _ _ _ _ c.root.ensures (c.maybe_arguments-arguments.ensures.reads (tree.root c.in-Some-identifier_at.name.now) (λ more. call_of c.in-Some-identifier_at.name.now (wides more)))
+    (λ k y. (goes (passes c.in_default.ensures.at (passes c.in_default-after.ensures.at (passes c.in_default-after-2.ensures.at (missing s
+    (found_at c.in-Some-after-3.ensures.at this_mark (found_at c.in-Some-identifier_at.ensures.at.0 (this_name c.in-Some-identifier_at.ensures.at.1) y))))))))
+    (λ x y b p. rw (b.0, b.1, c.in_ok-name.ensures) (goes (passes c.in_default.ensures.at (passes c.in_default-after.ensures.at (passes c.in_default-after-2.ensures.at (missing s
+    (found_at c.in-Some-after-3.ensures.at this_mark (found_at c.in-Some-identifier_at.ensures.at.0 (this_name c.in-Some-identifier_at.ensures.at.1) p))))))))
 
 pub primary-returns-in_default-identifier_at-2-clause-reads : goal.primary-returns-in_default-identifier_at-2-clause-reads
 primary-returns-in_default-identifier_at-2-clause-reads t c =
@@ -329,6 +316,78 @@ primary-returns-in_default-identifier_at-2-clause-reads t c =
 pub primary-returns-clause-reads : goal.primary-returns-clause-reads
 primary-returns-clause-reads t c =
     let s = rw c.in_default-2.is at c.in_ok-literal.ensures.at in
-    hand _ _ _ (WideStepReads (Row Primary) c.args.room (words c.args.text.now c.args.tokens.now)) (λ o m. goes (passes c.in_default.ensures.at
-    (passes c.in_default-after.ensures.at (passes c.in_default-after-2.ensures.at (missing s (missing c.in_default-after-3.ensures.at
-    (found_at c.in-Some-identifier_at-2.ensures.at.0 (this_name c.in-Some-identifier_at-2.ensures.at.1) m))))))) (rw (c.name-plain.ensures, c.in_ok-name_of-2.ensures) at c.called-2.ensures.reads)
+    built _ _ c.maybe_arguments-arguments-2.result _ _ _ _ c.call.ensures (c.maybe_arguments-arguments-2.ensures.reads (tree.name c.in-Some-identifier_at-2.name.now) (λ more. call_of c.in-Some-identifier_at-2.name.now (wides more)))
+    (λ k y. (goes (passes c.in_default.ensures.at (passes c.in_default-after.ensures.at (passes c.in_default-after-2.ensures.at (missing s
+    (missing c.in_default-after-3.ensures.at (found_at c.in-Some-identifier_at-2.ensures.at.0 (this_name c.in-Some-identifier_at-2.ensures.at.1) y))))))))
+    (λ x y b p. rw (b.0, b.1, c.in_ok-name-2.ensures) (goes (passes c.in_default.ensures.at (passes c.in_default-after.ensures.at (passes c.in_default-after-2.ensures.at (missing s
+    (missing c.in_default-after-3.ensures.at (found_at c.in-Some-identifier_at-2.ensures.at.0 (this_name c.in-Some-identifier_at-2.ensures.at.1) p))))))))
+
+pub unary-returns-in_default-clause-reads : goal.unary-returns-in_default-clause-reads
+unary-returns-in_default-clause-reads t c = hand _ _ (WideStepReads (Row Member) c.args.room (words c.args.text.now c.args.tokens.now)) (WideStepReads
+    (Row Unary) c.args.room (words c.args.text.now c.args.tokens.now)) (λ o m. goes (missing c.in_default.ensures.at.0
+    (missing c.in_default.ensures.at.1 m))) c.member.ensures.reads
+
+pub unary-returns-clause-reads : goal.unary-returns-clause-reads
+unary-returns-clause-reads t c =
+    built _ _ c.member-operand.result _ _ _ _ c.applied.ensures c.member-operand.ensures.reads
+    (λ k y. (unary_at c.in-Some.operator c.in-Some.ensures.at (prefixed_refused c.prefixes-odd.ensures.at y)))
+    (λ x y b p. rw (b.0, b.1) (unary_at c.in-Some.operator c.in-Some.ensures.at (prefixed_read c.prefixes-odd.ensures.at p)))
+
+pub unary-returns-clause-shorter : goal.unary-returns-clause-shorter
+unary-returns-clause-shorter t c =
+    built_within c.member-operand.result _ _ _ _ c.applied.ensures c.member-operand.ensures.shorter
+    (λ x y b s. rw (b.1) (omega (arith, s, c.prefixes-odd.ensures.within, c.in-Some.ensures.shorter)))
+
+pub entries-loop-grown-preserved : goal.entries-loop-grown-preserved
+entries-loop-grown-preserved t c =
+    led_then c.entry-entry.result _ _ _ _ _ _ c.in_ok-grown.ensures (c.entry-entry.ensures.reads _) c.entry-entry.ensures.shorter
+    (λ x b l s. rw (pushed entry_view _ _ _ b.0) (record {
+      goes = λ o z. c.loop-grown.invariant.goes o (l _ (goes (rw (← b.1) (behind_goes Map _ (Entry _) c.in_default-end_at.ensures.at c.in-Some-after-2.ensures.at z))));
+      within = omega (arith, c.loop-grown.invariant.within, rw (← b.1) at s, c.in-Some-after-2.ensures.shorter);
+    }))
+
+pub items-loop-grown-preserved : goal.items-loop-grown-preserved
+items-loop-grown-preserved t c =
+    part_then _ c.expression-item.result c.pair.result _ _ _ _ _ c.in_ok-grown.ensures c.pair.ensures c.expression-item.ensures.reads c.expression-item.ensures.shorter
+    (λ x y w b p s. rw (rw (w.0, w.1) at (pushed item_view _ _ _ b.0)) (record {
+      goes = λ o z. c.loop-grown.invariant.goes o (goes (accessed (item_after _) _ c.access_at-access.ensures.at (calls _ (rw (← w.2, ← b.1) at p) (goes
+          (behind_goes ListLiteral _ (Item _) c.in_default-end_at.ensures.at c.in-Some-after-2.ensures.at z)))));
+      within = omega (arith, c.loop-grown.invariant.within, rw (← w.2, ← b.1) at s, c.access_at-access.ensures.within, c.in-Some-after-2.ensures.shorter);
+    }))
+
+pub selection-returns-in-Some-clause-reads : goal.selection-returns-in-Some-clause-reads
+selection-returns-in-Some-clause-reads t c a =
+    rw c.in_ok-name.ensures (by_quoted _ c.access_at-access.ensures.at c.in-Some.ensures.at.0 c.in-Some.ensures.at.1)
+
+pub selection-returns-in_default-selector_at-clause-reads : goal.selection-returns-in_default-selector_at-clause-reads
+selection-returns-in_default-selector_at-clause-reads t c a =
+    rw c.misfit.ensures (misfit_left _ _ _ (by_none _ c.access_at-access.ensures.at c.in_default.ensures.at c.in_default-selector_at.ensures.at))
+
+pub selection-returns-in-Optional-clause-reads : goal.selection-returns-in-Optional-clause-reads
+selection-returns-in-Optional-clause-reads t c a =
+    let s = rw c.in-Optional.is at c.access_at-access.ensures.at in
+    rw (c.in-Optional.is, c.in_ok-name-2.ensures) (by_optional s c.in-Some-selector_at.ensures.at.0 c.in-Some-selector_at.ensures.at.1)
+
+pub selection-returns-in-Plain-clause-reads : goal.selection-returns-in-Plain-clause-reads
+selection-returns-in-Plain-clause-reads t c a =
+    let s = rw c.in-Plain.is at c.access_at-access.ensures.at in
+    part_of _ _ c.maybe_arguments.result c.pair-named.result _ _ _ _ _ c.pair.ensures c.pair-named.ensures
+    (c.maybe_arguments.ensures.reads (tree.select a Plain c.in-Some-selector_at.name.now) (λ more. method_of a c.in-Some-selector_at.name.now (wides more)))
+    (λ k y. (by_plain s c.in-Some-selector_at.ensures.at.0 c.in-Some-selector_at.ensures.at.1 y))
+    (λ x y z w b p. rw (b.0, b.1, b.2, w.0, w.1, w.2, c.in-Plain.is, c.in_ok-name-2.ensures) (by_plain s c.in-Some-selector_at.ensures.at.0 c.in-Some-selector_at.ensures.at.1 p))
+
+pub selection-returns-in-Plain-clause-shorter : goal.selection-returns-in-Plain-clause-shorter
+selection-returns-in-Plain-clause-shorter t c =
+    built_within c.pair-named.result _ _ _ _ c.pair.ensures
+    (built_within c.maybe_arguments.result _ _ _ (λ x. length x.1.now ≤ length c.in-Some-selector_at.rest.now) c.pair-named.ensures c.maybe_arguments.ensures.shorter (λ x y b s. rw (b.2) s))
+    (λ x y b s. rw (b.2) (omega (arith, s, c.in-Some-selector_at.ensures.shorter, c.access_at-access.ensures.within)))
+
+pub primary-returns-in-Some-after-3-clause-shorter : goal.primary-returns-in-Some-after-3-clause-shorter
+primary-returns-in-Some-after-3-clause-shorter t c =
+    built_within c.maybe_arguments-arguments.result _ _ _ _ c.root.ensures c.maybe_arguments-arguments.ensures.shorter
+    (λ x y b s. rw (b.1) (omega (arith, s, c.in-Some-after-3.ensures.shorter, c.in-Some-identifier_at.ensures.shorter)))
+
+pub primary-returns-clause-shorter : goal.primary-returns-clause-shorter
+primary-returns-clause-shorter t c =
+    built_within c.maybe_arguments-arguments-2.result _ _ _ _ c.call.ensures c.maybe_arguments-arguments-2.ensures.shorter
+    (λ x y b s. rw (b.1) (omega (arith, s, c.in-Some-identifier_at-2.ensures.shorter)))

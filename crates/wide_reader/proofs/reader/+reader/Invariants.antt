@@ -7,13 +7,19 @@ abbrev pub decreases-enclosed : goal.decreases-enclosed
 decreases-enclosed l = 20 * length l.tokens.now + 17
 
 abbrev pub decreases-entries : goal.decreases-entries
-decreases-entries l = 20 * length l.tokens.now + 17
+decreases-entries l = 20 * length l.tokens.now + 18
+
+abbrev pub decreases-entry : goal.decreases-entry
+decreases-entry l = 20 * length l.tokens.now + 17
 
 abbrev pub decreases-items : goal.decreases-items
 decreases-items l = 20 * length l.tokens.now + 17
 
 abbrev pub decreases-expression : goal.decreases-expression
 decreases-expression l = 20 * length l.tokens.now + 16
+
+abbrev pub decreases-branches : goal.decreases-branches
+decreases-branches l = 20 * length l.yes_tokens.now + 16
 
 abbrev pub decreases-infix : goal.decreases-infix
 decreases-infix l = 20 * length l.tokens.now + (rank l.level + 1)
@@ -33,11 +39,8 @@ decreases-primary l = 20 * length l.tokens.now + 3
 abbrev pub decreases-selection : goal.decreases-selection
 decreases-selection l = 20 * length l.tokens.now + 19
 
-abbrev pub decreases-method : goal.decreases-method
-decreases-method l = 20 * length l.tokens.now + 18
-
-abbrev pub decreases-called : goal.decreases-called
-decreases-called l = 20 * length l.tokens.now + 18
+abbrev pub decreases-maybe_arguments : goal.decreases-maybe_arguments
+decreases-maybe_arguments l = 20 * length l.tokens.now + 18
 
 abbrev pub decreases-indexed : goal.decreases-indexed
 decreases-indexed l = 20 * length l.tokens.now + 17
@@ -63,29 +66,29 @@ invariant-member-loop-behind l = record {
 abbrev pub decreases-member-loop-behind : goal.decreases-member-loop-behind
 decreases-member-loop-behind l = length l.rest
 
-abbrev pub invariant-arguments-loop-arguments : goal.invariant-arguments-loop-arguments
-invariant-arguments-loop-arguments l = record {
+abbrev pub invariant-arguments-loop-grown : goal.invariant-arguments-loop-grown
+invariant-arguments-loop-grown l = record {
   goes : (o : WideReadOutcome) → WideStepReads (Argument (map view l.arguments.items)) (l.room - 1) (words l.text l.rest) o → WideStepReads Called l.room (words l.text l.tokens) o;
   within : length l.rest ≤ length l.tokens;
 }
 
-abbrev pub decreases-arguments-loop-arguments : goal.decreases-arguments-loop-arguments
-decreases-arguments-loop-arguments l = length l.rest
+abbrev pub decreases-arguments-loop-grown : goal.decreases-arguments-loop-grown
+decreases-arguments-loop-grown l = length l.rest
 
-abbrev pub invariant-items-loop-items : goal.invariant-items-loop-items
-invariant-items-loop-items l = record {
+abbrev pub invariant-items-loop-grown : goal.invariant-items-loop-grown
+invariant-items-loop-grown l = record {
   goes : (o : WideReadOutcome) → WideStepReads (Item (map item_view l.items.items)) (l.room - 1) (words l.text l.rest) o → WideStepReads Bracketed l.room (words l.text l.tokens) o;
   within : length l.rest ≤ length l.tokens;
 }
 
-abbrev pub decreases-items-loop-items : goal.decreases-items-loop-items
-decreases-items-loop-items l = length l.rest
+abbrev pub decreases-items-loop-grown : goal.decreases-items-loop-grown
+decreases-items-loop-grown l = length l.rest
 
-abbrev pub invariant-entries-loop-entries : goal.invariant-entries-loop-entries
-invariant-entries-loop-entries l = record {
+abbrev pub invariant-entries-loop-grown : goal.invariant-entries-loop-grown
+invariant-entries-loop-grown l = record {
   goes : (o : WideReadOutcome) → WideStepReads (Entry (map entry_view l.entries.items)) (l.room - 1) (words l.text l.rest) o → WideStepReads Mapped l.room (words l.text l.tokens) o;
   within : length l.rest ≤ length l.tokens;
 }
 
-abbrev pub decreases-entries-loop-entries : goal.decreases-entries-loop-entries
-decreases-entries-loop-entries l = length l.rest
+abbrev pub decreases-entries-loop-grown : goal.decreases-entries-loop-grown
+decreases-entries-loop-grown l = length l.rest
