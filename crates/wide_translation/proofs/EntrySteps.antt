@@ -48,9 +48,9 @@ pub always_more : (k l : ValueKind) (key item : Expr) (ps : Pairs) → entry_mor
 always_more k l key item (pairs ps) = refl
 always_more k l key item (no_pairs e) = refl
 
-pub never_optional : (k : ValueKind) (t : Tree) (c : Carried) (ps : Pairs) → ((l : ValueKind) (a : Tree) → c ≡ plain l a → ⊥)
+pub never_optional : (k : ValueKind) (t : Tree) (c : Carried) (ps : Pairs) → ((f : ValueKind → Tree → Translation) → on_plain c f ≡ refused OptionalValue)
     → entry_more Plain (taken (plain k t)) (taken c) ps ≡ no_pairs OptionalValue
-never_optional k t (plain l a) ps n = absurd (n l a refl)
+never_optional k t (plain l a) ps n = let x : taken (plain l a) ≡ refused OptionalValue = n (λ j d. taken (plain j d)) in absurd (cc)
 never_optional k t (guarded l g v) ps n = refl
 never_optional k t (listed l m) ps n = refl
 

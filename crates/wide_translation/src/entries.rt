@@ -14,7 +14,7 @@ ghost use Rattle.wide_translation.specs.Parts as specs;
 ghost use Rattle.wide_reader.specs.declared.wide.Access.TheVariants as access;
 
 use crate::built::{self, Built};
-use crate::carried::Carried;
+use crate::carried::{Carried, value_of};
 use crate::copying::{copy, entry_copies};
 use crate::entry_part::EntryPart;
 use crate::translation_error::TranslationError;
@@ -70,21 +70,22 @@ fn optional(alloc: Global, key: Expr, value: Carried) -> Result<EntryPart, Trans
     ensures { ReturnsEntryPart (specs.keyed_more (view key) (carried_view value)) result }
 {
     let Some(field) = text_of(key) else {
+        drop(value);
         return Err(TranslationError::OptionalEntry);
     };
     of_text(alloc, field, value)
 }
 
 /// An entry that is not optional.
-#[tactic(auto, using(crate::proofs::EntrySteps::always_more, crate::proofs::EntrySteps::never_optional))]
+#[tactic(auto, using(crate::proofs::EntrySteps::always_more))]
 fn always(key: Expr, value: Carried) -> Result<EntryPart, TranslationError>
     ensures { ReturnsEntryPart (specs.entry_more access.Plain (taken (plain kind.Dyn (view key))) (taken (carried_view value))) result }
 {
-    match value {
-        Carried::Plain(_, tree) => Ok(EntryPart::Always(key, tree)),
-        Carried::Guarded(_, _, _) => Err(TranslationError::OptionalValue),
-        Carried::Listed(_, _) => Err(TranslationError::OptionalValue),
-    }
+    let Some((_, tree)) = value_of(value) else {
+        drop(key);
+        return Err(TranslationError::OptionalValue);
+    };
+    Ok(EntryPart::Always(key, tree))
 }
 
 /// An entry of a key and a value.

@@ -26,8 +26,14 @@ use wide_reader::{Access, Wide};
 fn operands(of: Carried, key: Carried) -> Option<(Expr, Expr)>
     ensures { let t = specs.plain_index accesses.Plain (carried_view of) (carried_view key) in MatchOption result (t ≡ refused OptionalValue) (λ p. t ≡ taken (plain kinds.Dyn (node.index (view p.0) (view p.1)))) }
 {
-    let (_, first) = value_of(of)?;
-    let (_, second) = value_of(key)?;
+    let Some((_, first)) = value_of(of) else {
+        drop(key);
+        return None;
+    };
+    let Some((_, second)) = value_of(key) else {
+        drop(first);
+        return None;
+    };
     Some((first, second))
 }
 
@@ -53,7 +59,11 @@ fn plain_index(
 {
     match access {
         Access::Plain => value_index(alloc, of, key),
-        Access::Optional => Err(TranslationError::Unsupported),
+        Access::Optional => {
+            drop(of);
+            drop(key);
+            Err(TranslationError::Unsupported)
+        }
     }
 }
 
@@ -93,6 +103,7 @@ fn text_index(
     if is_index_of_value(access, &of) {
         return plain_index(alloc, access, of, key);
     }
+    drop(key);
     field_index(alloc, access, text, of)
 }
 
@@ -167,6 +178,7 @@ fn count_index(
     if is_index_of_value(access, &of) {
         return plain_index(alloc, access, of, key);
     }
+    drop(key);
     item_index(alloc, of, position)
 }
 

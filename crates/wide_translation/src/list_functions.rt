@@ -203,6 +203,7 @@ pub(crate) fn sets(
     ensures { ReturnsCarried (on_plain (carried_view second) (λ k b. taken (plain kind.Bool (specs.sets_tree (layers.sets_test found) (view first) b)))) result }
 {
     let Some((_, other)) = value_of(second) else {
+        drop(first);
         return Err(TranslationError::OptionalValue);
     };
     let tree = sets_tree(alloc, found, first, other)?;
