@@ -12,7 +12,7 @@ from ..asking.gatekeeper import without_file
 from ..asking.program import NotAnswered, Program
 from ..asking.translating import Translating
 from ..documents import Unreadable, json_fault, one_in
-from ..manifests.sending import object_sent
+from ..manifests.sending import object_sent, with_name_label
 from .cases import Case
 from .reviews import compact, text_of_review
 
@@ -64,6 +64,12 @@ def told(answer: Answer) -> str:
     return f"{answer.outcome}: {answer.message!r}" if answer.message else answer.outcome
 
 
+def labelled(value: Any) -> Any:
+    """A document in which each Namespace, it itself or an item of it as a list, has the label of its name."""
+    items = value.get("items") if isinstance(value, dict) else None
+    return {**value, "items": list(map(with_name_label, items))} if isinstance(items, list) else with_name_label(value)
+
+
 class Asked:
     """The files that cases name, as the programs read them: YAML and inline documents become files of JSON."""
 
@@ -84,9 +90,23 @@ class Asked:
         if isinstance(value, str):
             path = Path(self.files.named(at / value))
             if path.suffix not in (".yaml", ".yml"):
-                return str(path)
+                return self.labelled(str(path))
             value = one_in(path)
-        text = compact(object_sent(value))
+        return self.of_text(compact(labelled(object_sent(value))))
+
+    def labelled(self, name: str) -> str:
+        """A file of JSON, or a copy in which each Namespace has the label of its name."""
+        text = Path(name).read_bytes()
+        try:
+            value = json.loads(text) if b"Namespace" in text else None
+        except (ValueError, RecursionError):
+            # the program tells what is wrong with it
+            return name
+        sent = labelled(value)
+        return name if sent == value else self.of_text(compact(sent))
+
+    def of_text(self, text: str) -> str:
+        """The file of this text."""
         if text not in self.made:
             self.made[text] = self.write(f"document{len(self.made)}.json", text)
         return self.made[text]

@@ -11,6 +11,7 @@ from unittest import mock
 from .. import documents
 from ..entry import ended
 from ..manifests.kinds import Resources, built_in
+from ..manifests.sending import with_name_label
 from ..vapctl.main import main
 from .test_documents import Files
 
@@ -31,6 +32,8 @@ CREATED = (
     '"object":{"apiVersion":"apps/v1","kind":"Deployment","metadata":{"name":"web","namespace":"default"},"spec":{"replicas":3}},'
     '"oldObject":null,"dryRun":false,"options":{"apiVersion":"meta.k8s.io/v1","kind":"CreateOptions"}}}\n'
 )
+# the labels that an API server sets on the namespace shop
+NAMED = {"kubernetes.io/metadata.name": "shop"}
 MANIFEST = """# Source: shop/templates/namespace.yaml
 apiVersion: v1
 kind: Namespace
@@ -110,14 +113,30 @@ class Making(Ran):
         space: dict[str, Any] = {"apiVersion": "v1", "kind": "Namespace", "metadata": metadata, "spec": {"finalizers": []}}
         old = {**space, "metadata": {**metadata, "labels": {"a": ""}}}
         created = self.requests(self.file("space.json", json.dumps(space)))[0]
-        self.assertEqual(created["object"], {**space, "metadata": {"name": "shop"}})
+        self.assertEqual(created["object"], {**space, "metadata": {"name": "shop", "labels": NAMED}})
         files = self.file("old.json", json.dumps(old)), self.file("space.json", json.dumps(space))
         updated = self.requests("--old", *files)[0]
-        self.assertEqual(updated["oldObject"]["metadata"], {"name": "shop", "labels": {"a": ""}})
+        self.assertEqual(updated["oldObject"]["metadata"], {"name": "shop", "labels": {"a": "", **NAMED}})
         web = WEB.replace('"web"%s', '"", "generateName": "web-", "namespace": ""%s') % ("", 3)
         request = self.requests(self.file("web.json", web))[0]
         self.assertNotIn("name", request)
         self.assertEqual(request["object"]["metadata"], {"generateName": "web-", "namespace": "default"})
+
+    def test_the_label_of_a_namespace(self) -> None:
+        space = {"apiVersion": "v1", "kind": "Namespace"}
+        rows: list[tuple[Any, Any]] = [
+            ({"name": "shop"}, {"name": "shop", "labels": NAMED}),
+            ({"name": "shop", "labels": None}, {"name": "shop", "labels": NAMED}),
+            ({"name": "shop", "labels": {"a": "b", **{key: "other" for key in NAMED}}}, {"name": "shop", "labels": {"a": "b", **NAMED}}),
+            # the name is not known yet, or what is there is refused
+            ({"generateName": "shop-"}, {"generateName": "shop-"}), ({"name": 1}, {"name": 1}), (None, None),
+            ({"name": "shop", "labels": ["a"]}, {"name": "shop", "labels": ["a"]}),
+        ]
+        for metadata, sent in rows:
+            with self.subTest(metadata):
+                self.assertEqual(with_name_label({**space, "metadata": metadata}), {**space, "metadata": sent})
+        other = {"apiVersion": "x.io/v1", "kind": "Namespace", "metadata": {"name": "shop"}}
+        self.assertEqual(with_name_label(other), other)
 
     def test_custom_resources(self) -> None:
         team = self.file("team.json", TEAM % "v1")
@@ -132,7 +151,7 @@ class Making(Ran):
     def test_yaml_of_several_documents(self) -> None:
         space, job = self.requests(self.file("all.yaml", MANIFEST))
         self.assertEqual((space["resource"]["resource"], space["name"], space["namespace"]), ("namespaces", "shop", "shop"))
-        self.assertEqual(space["object"]["metadata"], {"name": "shop"})
+        self.assertEqual(space["object"]["metadata"], {"name": "shop", "labels": NAMED})
         self.assertEqual((job["resource"]["resource"], job["namespace"], job.get("name")), ("jobs", "default", None))
 
 

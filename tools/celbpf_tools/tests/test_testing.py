@@ -87,6 +87,18 @@ class Reading(Files):
         written = Path(Asked(self.folder).file(namespace, self.folder)).read_text()
         self.assertEqual(json.loads(written), {"kind": "Namespace", "metadata": {"name": "a"}})
 
+    def test_namespaces_have_the_label_of_their_name(self) -> None:
+        space: dict[str, Any] = {"apiVersion": "v1", "kind": "Namespace", "metadata": {"name": "a"}}
+        named = {**space, "metadata": {"name": "a", "labels": {"kubernetes.io/metadata.name": "a"}}}
+        asked = Asked(self.folder)
+        for given, sent in ((space, named), ({"items": [space, {"kind": "Pod"}]}, {"items": [named, {"kind": "Pod"}]})):
+            written = asked.file(self.file("a.json", json.dumps(given)).name, self.folder)
+            self.assertEqual(json.loads(Path(written).read_text()), sent)
+            self.assertEqual(json.loads(Path(asked.file(given, self.folder)).read_text()), sent)
+        for name, text in (("b.json", json.dumps(named)), ("c.json", '{"kind": "Namespace"')):
+            path = self.file(name, text)
+            self.assertEqual(asked.file(name, self.folder), str(path))
+
 
 class Wanted(Files):
     def case(self, wanted: str) -> Any:

@@ -7,6 +7,7 @@ from dataclasses import dataclass, field
 from pathlib import Path
 from typing import Any, Optional
 
+from ..manifests.sending import with_name_label
 from .inputs import Place, Thing
 
 ADMISSION = "admissionregistration.k8s.io"
@@ -15,7 +16,6 @@ VERSION = f"{ADMISSION}/v1"
 # an API server converts these to it
 OLDER = (f"{ADMISSION}/v1beta1", f"{ADMISSION}/v1alpha1")
 NAME = re.compile(r"[a-z0-9](?:[-a-z0-9.]{0,251}[a-z0-9])?")
-NAME_LABEL = "kubernetes.io/metadata.name"
 EVERYTHING = {"apiGroups": ["*"], "apiVersions": ["*"], "operations": ["*"], "resources": ["*"]}
 
 
@@ -101,8 +101,7 @@ def is_namespace(thing: Thing) -> bool:
 
 def namespace_named(name: str, place: Place) -> Thing:
     """A Namespace without labels but that of its name."""
-    metadata = {"name": name, "labels": {NAME_LABEL: name}}
-    return Thing({"apiVersion": "v1", "kind": "Namespace", "metadata": metadata}, place)
+    return Thing(with_name_label({"apiVersion": "v1", "kind": "Namespace", "metadata": {"name": name}}), place)
 
 
 def as_stored(thing: Thing) -> Thing:

@@ -11,6 +11,7 @@ from json import JSONDecodeError
 from pathlib import Path
 from typing import Any, Callable, Iterable, Iterator
 
+from ..manifests.sending import with_name_label
 from . import yaml_texts
 from .json_texts import documents_of, looks_like_json, place_of
 from .located import Document, Located
@@ -234,7 +235,7 @@ class Inputs:
             elif one["kind"].endswith("List") and isinstance(one.get("items"), list):
                 waiting = [*one["items"], *waiting]
             else:
-                yield Thing(one, place)
+                yield Thing(with_name_label(one), place)
 
 
 class Unread(Exception):
