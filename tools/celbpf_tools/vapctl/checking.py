@@ -18,6 +18,7 @@ from .reports.texts import on_line
 from .reports.words import refuse_twice
 from .requests import Asked, NoReview, Reviews, UnknownKind
 from .results import ERROR, UNDECIDED, Finding, Report, Result, plural
+from .rules import refuse_rules
 from .statuses import REFUSED, WORDS
 
 MADE_HERE = Place("(made here)")
@@ -35,6 +36,8 @@ class Sources:
     old: list[Thing] = field(default_factory=list)
     new: list[Thing] = field(default_factory=list)
     troubles: list[Trouble] = field(default_factory=list)
+    # of the files that policies may be in
+    texts: dict[str, str] = field(default_factory=dict)
 
 
 def tell(line: str) -> None:
@@ -57,9 +60,10 @@ def stop_at(troubles: list[Trouble]) -> None:
 
 def read(given: argparse.Namespace) -> Sources:
     """Reads all inputs. What cannot be read of a state, of policies or of params ends the command."""
-    inputs = Inputs()
-    found = Sources(inputs.things(given.cluster), inputs.things(given.policies), inputs.things(given.params))
+    inputs = Inputs(keeps_texts=True)
+    found = Sources(inputs.things(given.cluster), inputs.things(given.policies), inputs.things(given.params), texts=inputs.texts)
     stop_at(inputs.troubles)
+    inputs.keeps_texts = False
     found.old = inputs.things(given.old)
     stop_at(inputs.troubles)
     found.new = inputs.things(given.manifests)
@@ -76,6 +80,7 @@ def resources_of(things: list[Thing]) -> Resources:
 
 def state_of(given: argparse.Namespace, found: Sources, resources: Resources) -> State:
     """The state of the cluster, or one in which the given policies are bound."""
+    refuse_rules([*found.cluster, *found.policies, *found.params], found.texts)
     if given.cluster:
         state = saved(found.cluster)
     else:

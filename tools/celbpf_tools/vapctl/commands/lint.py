@@ -11,7 +11,7 @@ from ...asking.gatekeeper import Gatekeeper
 from ...asking.program import Program, located
 from ...asking.translating import gatekeeper_of
 from ...entry import Stop
-from ..cluster import POLICY
+from ..cluster import BINDING, POLICY, is_of
 from ..inputs import Inputs, Thing, Trouble
 from ..linting import Fault, faults
 from ..one_decision import add_programs
@@ -20,6 +20,7 @@ from ..reports.github import command
 from ..reports.texts import on_line
 from ..reports.words import FormWord, refuse_twice
 from ..results import plural
+from ..rule_linting import rule_faults
 from ..statuses import GOOD, REFUSED
 from ..wide_linting import wide_faults
 
@@ -53,7 +54,9 @@ def run(given: argparse.Namespace) -> int:
     """Writes the refusals of each policy."""
     refuse_twice(given.output)
     inputs = Inputs(keeps_texts=True)
-    policies = [thing for thing in inputs.things(given.policies) if thing.kind == POLICY]
+    things = inputs.things(given.policies)
+    policies = [thing for thing in things if thing.kind == POLICY]
+    bindings = [thing for thing in things if is_of(thing, BINDING)]
     marks = {name: Marks(text) for name, text in inputs.texts.items()}
     if not policies and not inputs.troubles:
         raise Stop(f"no {POLICY} is among the inputs", REFUSED)
@@ -61,8 +64,13 @@ def run(given: argparse.Namespace) -> int:
     with tempfile.TemporaryDirectory() as folder:
         shown = asked(given, folder)
         for policy in policies:
-            found += sorted(shown(policy, marks.get(policy.place.file)), key=place_of)
-    summed = summary(len(policies), len({id(fault.policy) for fault in found}), len(inputs.troubles))
+            own = marks.get(policy.place.file)
+            found += sorted([*shown(policy, own), *rule_faults(policy, own)], key=place_of)
+    refused = len({id(fault.policy) for fault in found})
+    for binding in bindings:
+        found += rule_faults(binding, marks.get(binding.place.file))
+    unbound = len({id(fault.policy) for fault in found}) - refused
+    summed = summary(len(policies), refused, unbound, len(inputs.troubles))
     for name, file in given.output or [("table", "")]:
         if not file:
             SHOWN[name](found, inputs.troubles, summed, sys.stdout)
@@ -72,9 +80,10 @@ def run(given: argparse.Namespace) -> int:
     return REFUSED if found or inputs.troubles else GOOD
 
 
-def summary(policies: int, refused: int, unread: int) -> str:
-    """The numbers on one line."""
+def summary(policies: int, refused: int, bindings: int, unread: int) -> str:
+    """The numbers on one line; of bindings only those that are refused are counted."""
     told = [f"{policies - refused} accepted"] + [f"{refused} refused"] * bool(refused)
+    told += [f"{plural(bindings, 'binding')} refused"] * bool(bindings)
     told += [f"{plural(unread, 'input')} not read"] * bool(unread)
     return f"{policies} {'policy' if policies == 1 else 'policies'}: {', '.join(told)}"
 

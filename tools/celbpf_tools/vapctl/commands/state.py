@@ -11,6 +11,7 @@ from ..checking import MADE_HERE, tell
 from ..cluster import BINDING, POLICY, NoState, is_namespace, is_of, namespace_named, policy_of, saved
 from ..inputs import Inputs, Thing
 from ..results import plural
+from ..rules import refuse_rules
 from ..saving import Kubectl, Saving, param_kinds
 from ..statuses import GOOD, REFUSED
 
@@ -56,9 +57,11 @@ def of_cluster(given: argparse.Namespace) -> tuple[list[Thing], list[object]]:
 
 def of_manifests(files: list[str]) -> tuple[list[Thing], list[object]]:
     """The objects of manifests that a state has, and what is not read."""
-    inputs = Inputs()
+    inputs = Inputs(keeps_texts=True)
     try:
-        state = saved(inputs.things(files))
+        things = inputs.things(files)
+        refuse_rules(things, inputs.texts)
+        state = saved(things)
     except NoState as why:
         return [], [*inputs.troubles, *why.lines]
     kinds = set(param_kinds(state.things))
