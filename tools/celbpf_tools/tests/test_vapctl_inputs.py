@@ -163,6 +163,13 @@ class FilesAndFolders(Read):
     def test_each_file_is_read_once(self) -> None:
         path = self.file("a.json", OBJECT % "a")
         self.assertEqual(self.read(path, path)[0], ["a.json:1 Node a"])
+        self.file("b.json", OBJECT % "b")
+        (self.folder / "link.json").symlink_to(path)
+        self.assertEqual(self.read(f"{self.folder}/./a.json", self.folder)[0], ["./a.json:1 Node a", "b.json:1 Node b"])
+        inputs, seen = Inputs(), set[str]()
+        self.assertEqual([len(inputs.things([str(one)], seen)) for one in (path, self.folder, path)], [1, 1, 0])
+        # what is there twice in a file is there twice
+        self.assertEqual(len(self.read(self.file("c.json", OBJECT % "c" * 2))[0]), 2)
 
     def test_standard_input(self) -> None:
         stdin = io.TextIOWrapper(io.BytesIO(b"\xef\xbb\xbf" + (OBJECT % "a").encode()))

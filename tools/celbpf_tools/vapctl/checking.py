@@ -61,7 +61,10 @@ def stop_at(troubles: list[Trouble]) -> None:
 def read(given: argparse.Namespace) -> Sources:
     """Reads all inputs. What cannot be read of a state, of policies or of params ends the command."""
     inputs = Inputs(keeps_texts=True)
-    found = Sources(inputs.things(given.cluster), inputs.things(given.policies), inputs.things(given.params), texts=inputs.texts)
+    found, seen = Sources(inputs.things(given.cluster), texts=inputs.texts), set[str]()
+    # a file that is among both has params
+    found.params = inputs.things(given.params, seen)
+    found.policies = inputs.things(given.policies, seen)
     stop_at(inputs.troubles)
     inputs.keeps_texts = False
     found.old = inputs.things(given.old)

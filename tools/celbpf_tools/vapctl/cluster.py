@@ -143,8 +143,11 @@ def saved(things: list[Thing]) -> State:
 
 
 def of_policies(things: list[Thing], params: list[Thing]) -> State:
-    """The state in which these policies are bound: by the bindings among them, or else by one that denies."""
-    state = saved([*things, *params])
+    """The state in which these policies are bound: by the bindings among them, or else by one that denies. If there are params,
+    nothing else among the things is one.
+    """
+    kinds = [spec_of(one).get("paramKind") for one in (*things, *params) if is_of(one, POLICY)]
+    state = saved([*(one for one in things if not params or is_namespace(one) or not is_any(one, kinds)), *params])
     bound = {policy_of(binding) for binding in state.bindings}
     for policy in state.policies:
         if policy.name not in bound:
@@ -165,9 +168,12 @@ def with_rules(thing: Thing) -> Thing:
 def params_of(policy: Thing, things: list[Thing]) -> Optional[list[Thing]]:
     """The objects of the kind of a policy's params; `None` if it has none."""
     kind = spec_of(policy).get("paramKind")
-    if not isinstance(kind, dict):
-        return None
-    return [one for one in things if (one.api_version, one.kind) == (kind.get("apiVersion"), kind.get("kind"))]
+    return [one for one in things if is_any(one, [kind])] if isinstance(kind, dict) else None
+
+
+def is_any(thing: Thing, kinds: list[Any]) -> bool:
+    """Whether an object is of one of these kinds of params."""
+    return any(isinstance(kind, dict) and (thing.api_version, thing.kind) == (kind.get("apiVersion"), kind.get("kind")) for kind in kinds)
 
 
 def binding_of(policy: Thing, params: Optional[list[Thing]]) -> Thing:

@@ -9,7 +9,7 @@ import sys
 from dataclasses import dataclass
 from json import JSONDecodeError
 from pathlib import Path
-from typing import Any, Callable, Iterable, Iterator
+from typing import Any, Callable, Iterable, Iterator, Optional
 
 from ..manifests.sending import with_name_label
 from . import yaml_texts
@@ -104,12 +104,18 @@ class Inputs:
         self.keeps_texts = keeps_texts
         self.texts: dict[str, str] = {}
 
-    def things(self, words: Iterable[str]) -> list[Thing]:
-        """The objects of files and folders, in their order; what cannot be read is among the troubles."""
+    def things(self, words: Iterable[str], seen: Optional[set[str]] = None) -> list[Thing]:
+        """The objects of files and folders, in their order; what cannot be read is among the troubles. A file that is named
+        twice, or that is in `seen` since it was read before, counts once.
+        """
         found: list[Thing] = []
+        seen = set() if seen is None else seen
         for name in dict.fromkeys(words):
             for file in self.files(name):
-                found += self.of_file(file, file != name)
+                real = real_path(file)
+                if file == STDIN or real not in seen:
+                    found += self.of_file(file, file != name)
+                    seen.add(real)
         return found
 
     def trouble(self, file: str, line: int, why: str) -> None:
@@ -244,6 +250,14 @@ class Unread(Exception):
     def __init__(self, why: str, line: int = 0):
         super().__init__(why)
         self.why, self.line = why, line
+
+
+def real_path(file: str) -> str:
+    """The path to which links lead; of a name that no file can have, the name."""
+    try:
+        return os.path.realpath(file)
+    except ValueError:
+        return file
 
 
 def names_kind(value: Any) -> bool:
