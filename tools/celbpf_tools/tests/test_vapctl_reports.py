@@ -85,7 +85,7 @@ class Forms(unittest.TestCase):
 
     def test_json(self) -> None:
         found = json.loads(written(jsons.write))
-        self.assertEqual(found["summary"], {"objects": 5, "allowed": 2, "denied": 2, "undecided": 1, "warnings": 2, "audited": 1, "errors": 3})
+        self.assertEqual(found["summary"], {"objects": 5, "allowed": 2, "denied": 2, "undecided": 1, "leftOut": 0, "warnings": 2, "audited": 1, "errors": 3})
         self.assertEqual([one["outcome"] for one in found["results"]], ["allowed", "denied", "allowed", "undecided", "denied"])
         self.assertEqual(found["results"][1]["findings"][0], {"policy": "p", "binding": "b", "action": "deny", "message": "no"})
         self.assertEqual(found["notRead"][0], {"file": "broken.yaml", "line": 4, "message": "no YAML"})

@@ -22,6 +22,7 @@ from .rules import refuse_rules
 from .statuses import REFUSED, WORDS
 
 MADE_HERE = Place("(made here)")
+ALL_LEFT_OUT = "the kind of no object is known, so each is left out"
 # how the message of an expression with an error ends
 ERROR_WORDS = " resulted in error"
 
@@ -113,11 +114,12 @@ def namespaces_of(given: argparse.Namespace, found: Sources) -> set[str]:
 
 @dataclass
 class Prepared:
-    """The objects of which there are reviews, with these, and the results of the others."""
+    """The objects of which there are reviews, with these, the results of the others, and how many are left out."""
 
     lines: list[str] = field(default_factory=list)
     asked: list[Result] = field(default_factory=list)
     results: list[Result] = field(default_factory=list)
+    left_out: int = 0
 
 
 def prepared(given: argparse.Namespace, found: Sources, resources: Resources) -> Prepared:
@@ -133,6 +135,7 @@ def prepared(given: argparse.Namespace, found: Sources, resources: Resources) ->
         try:
             value, line = reviews.text(thing, str(len(made.results) + 1))
         except UnknownKind as why:
+            made.left_out += given.skip_unknown
             if not given.skip_unknown:
                 hint = "its CustomResourceDefinition is not among the inputs; --skip-unknown leaves it out"
                 made.results.append(undecided(thing, thing.namespace, f"{why}: {hint}"))
@@ -167,6 +170,8 @@ def report_of(given: argparse.Namespace, progress: Callable[[], None] = lambda: 
         raise Stop("there is no object to check; with --allow-empty the status is 0", REFUSED)
     resources = resources_of([*found.cluster, *found.policies, *found.params, *found.new])
     made = prepared(given, found, resources)
+    if made.left_out and not made.results and not found.troubles and not given.allow_empty:
+        raise Stop(f"{ALL_LEFT_OUT}; with --allow-empty the status is 0", REFUSED)
     gate = gate_of(given, progress)
     with tempfile.TemporaryDirectory() as folder:
         try:
@@ -177,7 +182,7 @@ def report_of(given: argparse.Namespace, progress: Callable[[], None] = lambda: 
         for result, answer in zip(made.asked, deciding.decide(made.lines)):
             result.outcome, result.message, result.findings = answer
     refused = list(deciding.blocked) if given.policies else []
-    report = Report(made.results, found.troubles, deciding.policies, given.fail_on_warn, refused)
+    report = Report(made.results, found.troubles, deciding.policies, given.fail_on_warn, made.left_out, refused)
     tell_errors(report)
     return report
 

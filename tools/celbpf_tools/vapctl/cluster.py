@@ -8,6 +8,7 @@ from pathlib import Path
 from typing import Any, Optional
 
 from ..manifests.sending import with_name_label
+from ..manifests.spelling import near_in
 from .inputs import Place, Thing
 
 ADMISSION = "admissionregistration.k8s.io"
@@ -134,10 +135,21 @@ def misnamed(things: list[Thing]) -> list[str]:
             if (is_of(thing, POLICY) or is_of(thing, BINDING)) and not NAME.fullmatch(thing.name)]
 
 
+def misspelt(thing: Thing) -> Optional[str]:
+    """The kind of policies, bindings and the like that is meant by one that there is not."""
+    return near_in(ADMISSION, thing.kind) if thing.group == ADMISSION else None
+
+
+def misspelt_kinds(things: list[Thing]) -> list[str]:
+    """A line for each object that would be a policy or the like, if its kind were spelt so."""
+    return [f"{thing.place}: {thing.title}: {ADMISSION} has no such kind: did you mean {meant}?"
+            for thing in things if (meant := misspelt(thing))]
+
+
 def saved(things: list[Thing]) -> State:
     """The state of objects that a cluster holds."""
     stored = [as_stored(thing) for thing in things]
-    if told := of_other_versions(stored) + misnamed(stored) + duplicates(stored):
+    if told := misspelt_kinds(stored) + of_other_versions(stored) + misnamed(stored) + duplicates(stored):
         raise NoState(told)
     return State(stored)
 

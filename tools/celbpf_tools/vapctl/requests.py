@@ -6,6 +6,7 @@ from typing import Any, Optional
 
 from ..manifests.kinds import Resource, Resources
 from ..manifests.reviews import Converted, OldObjects, placed, request_of, review_of
+from ..manifests.spelling import advice
 from .inputs import Thing
 from .numbers import undecided_numbers
 from .quantities import write_quantities
@@ -30,7 +31,7 @@ class NoReview(Exception):
 
 
 class UnknownKind(NoReview):
-    """An object of a kind that is neither built in nor defined."""
+    """An object of a kind that is neither built in nor defined, in a group that may be defined."""
 
 
 class Reviews:
@@ -47,7 +48,10 @@ class Reviews:
             raise NoReview("the object has no metadata")
         resource = self.resources.of(thing.value)
         if resource is None:
-            raise UnknownKind(f"the kind {thing.api_version} {thing.kind} is not known")
+            told = f"the kind {thing.api_version} {thing.kind} is not known"
+            if meant := advice(thing.api_version, thing.kind):
+                raise NoReview(f"{told}: {meant}")
+            raise UnknownKind(told)
         for key in ("name", "namespace", "generateName"):
             if not isinstance(thing.metadata.get(key, ""), (str, type(None))):
                 raise NoReview(f"metadata.{key} is not a text")

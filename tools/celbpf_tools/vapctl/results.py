@@ -47,14 +47,15 @@ class Result:
 
 @dataclass
 class Report:
-    """All results, what could not be read, the policies that were asked, whether a warning is a failure, and the policies
-    that were given and are refused.
+    """All results, what could not be read, the policies that were asked, whether a warning is a failure, how many objects were
+    left out since their kind is not known, and the policies that were given and are refused.
     """
 
     results: list[Result] = field(default_factory=list)
     troubles: list[Trouble] = field(default_factory=list)
     policies: list[str] = field(default_factory=list)
     fails_on_warn: bool = False
+    left_out: int = 0
     refused: list[str] = field(default_factory=list)
 
     def count(self, outcome: str) -> int:
@@ -78,6 +79,7 @@ class Report:
         told = [f"{self.count(outcome):,} {outcome}" for outcome in (ALLOWED, DENIED)]
         told += [f"{self.count(UNDECIDED):,} not decided"] if self.count(UNDECIDED) else []
         told += [plural(len(self.troubles), "input") + " not read"] if self.troubles else []
+        told += [f"{self.left_out:,} left out"] if self.left_out else []
         warned = len(self.findings(WARN))
         audited = len(self.findings(AUDIT))
         told += [plural(warned, "warning")] if warned else []

@@ -1,13 +1,28 @@
-"""What `lint` shows of the rules of policies and bindings."""
+"""What `lint` shows of kinds that are misspelt, and of the rules of policies and bindings."""
 
 from collections.abc import Iterator
 from typing import Optional
 
 from ..asking.refused import Refused
+from .cluster import ADMISSION
 from .inputs import Thing
 from .linting import Fault
 from .positions import Marks
 from .rules import CODES, position_of, refusals
+
+
+class KindFault(Fault):
+    """A policy or a binding whose kind is misspelt."""
+
+    @property
+    def meaning(self) -> str:
+        return self.refused.meaning
+
+
+def kind_fault(thing: Thing, meant: str, marks: Optional[Marks]) -> Fault:
+    """The refusal of a kind that there is not."""
+    told = f"{ADMISSION} has no {thing.kind}: did you mean {meant}?"
+    return KindFault(thing, "K2", Refused(told, key="kind"), position_of(thing, ("kind",), marks))
 
 
 def rule_faults(thing: Thing, marks: Optional[Marks]) -> Iterator[Fault]:

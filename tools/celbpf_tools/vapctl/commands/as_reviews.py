@@ -4,7 +4,7 @@ import argparse
 import io
 import sys
 
-from ..checking import Sources, add_request_words, prepared, refuse_user, resources_of, stop_at, tell
+from ..checking import ALL_LEFT_OUT, Sources, add_request_words, prepared, refuse_user, resources_of, stop_at, tell
 from ..inputs import Inputs
 from ..requests import OPERATIONS
 from ..statuses import GOOD, REFUSED
@@ -52,7 +52,7 @@ def run(given: argparse.Namespace) -> int:
     undecided = [one for one in made.results if one.findings]
     for one in undecided:
         tell(f"{one.place}: {one.title}: {one.findings[0].message}")
-    if not found.new and not found.troubles and not given.allow_empty:
-        tell("there is no object; with --allow-empty the status is 0")
+    if not made.results and not found.troubles and not given.allow_empty:
+        tell(f"{ALL_LEFT_OUT if made.left_out else 'there is no object'}; with --allow-empty the status is 0")
         return REFUSED
     return REFUSED if undecided or found.troubles else GOOD

@@ -5,13 +5,13 @@ import json
 import sys
 import tempfile
 from collections.abc import Iterator
-from typing import Any, Callable, TextIO
+from typing import Any, Callable, Optional, TextIO
 
 from ...asking.gatekeeper import Gatekeeper
 from ...asking.program import Program, located
 from ...asking.translating import gatekeeper_of
 from ...entry import Stop
-from ..cluster import BINDING, POLICY, is_of
+from ..cluster import BINDING, POLICY, is_of, misspelt
 from ..inputs import Inputs, Thing, Trouble
 from ..linting import Fault, faults
 from ..one_decision import add_programs
@@ -20,7 +20,7 @@ from ..reports.github import command
 from ..reports.texts import on_line
 from ..reports.words import FormWord, refuse_twice
 from ..results import plural
-from ..rule_linting import rule_faults
+from ..rule_linting import kind_fault, rule_faults
 from ..statuses import GOOD, REFUSED
 from ..wide_linting import wide_faults
 
@@ -55,22 +55,19 @@ def run(given: argparse.Namespace) -> int:
     refuse_twice(given.output)
     inputs = Inputs(keeps_texts=True)
     things = inputs.things(given.policies)
-    policies = [thing for thing in things if thing.kind == POLICY]
-    bindings = [thing for thing in things if is_of(thing, BINDING)]
+    policies = [thing for thing in things if POLICY in (thing.kind, misspelt(thing))]
+    others = [thing for thing in things if is_of(thing, BINDING) or misspelt(thing) not in (None, POLICY)]
     marks = {name: Marks(text) for name, text in inputs.texts.items()}
-    if not policies and not inputs.troubles:
-        raise Stop(f"no {POLICY} is among the inputs", REFUSED)
     found: list[Fault] = []
     with tempfile.TemporaryDirectory() as folder:
-        shown = asked(given, folder)
-        for policy in policies:
-            own = marks.get(policy.place.file)
-            found += sorted([*shown(policy, own), *rule_faults(policy, own)], key=place_of)
-    refused = len({id(fault.policy) for fault in found})
-    for binding in bindings:
-        found += rule_faults(binding, marks.get(binding.place.file))
-    unbound = len({id(fault.policy) for fault in found}) - refused
-    summed = summary(len(policies), refused, unbound, len(inputs.troubles))
+        shown = asked(given, folder) if policies else None
+        for thing in (*policies, *others):
+            found += sorted(faults_of(thing, marks.get(thing.place.file), shown), key=place_of)
+    if not policies and not found and not inputs.troubles:
+        raise Stop(f"no {POLICY} is among the inputs", REFUSED)
+    refused = {id(fault.policy) for fault in found}
+    of_policies, of_others = (sum(id(thing) in refused for thing in part) for part in (policies, others))
+    summed = summary(len(policies), of_policies, of_others, len(inputs.troubles))
     for name, file in given.output or [("table", "")]:
         if not file:
             SHOWN[name](found, inputs.troubles, summed, sys.stdout)
@@ -78,6 +75,16 @@ def run(given: argparse.Namespace) -> int:
         with open(file, "w", encoding="utf-8") as out:
             SHOWN[name](found, inputs.troubles, summed, out)
     return REFUSED if found or inputs.troubles else GOOD
+
+
+def faults_of(thing: Thing, marks: Any, shown: Optional[Callable[[Thing, Any], Iterator[Fault]]]) -> Iterator[Fault]:
+    """The refusals of a policy, a binding, or an object whose kind is misspelt."""
+    if meant := misspelt(thing):
+        yield kind_fault(thing, meant, marks)
+        return
+    if shown and thing.kind == POLICY:
+        yield from shown(thing, marks)
+    yield from rule_faults(thing, marks)
 
 
 def summary(policies: int, refused: int, bindings: int, unread: int) -> str:

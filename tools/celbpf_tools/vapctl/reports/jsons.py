@@ -25,8 +25,8 @@ def result_of(result: Result) -> dict[str, Any]:
 def summary_of(report: Report) -> dict[str, Any]:
     """The numbers of a report."""
     counts = {outcome: report.count(outcome) for outcome in (ALLOWED, DENIED, UNDECIDED)}
-    warned = {"warnings": len(report.findings(WARN)), "audited": len(report.findings(AUDIT))}
-    return {"objects": len(report.results), **counts, **warned, "errors": len(report.findings(ERROR)) + len(report.troubles)}
+    more = {"leftOut": report.left_out, "warnings": len(report.findings(WARN)), "audited": len(report.findings(AUDIT))}
+    return {"objects": len(report.results), **counts, **more, "errors": len(report.findings(ERROR)) + len(report.troubles)}
 
 
 def document_of(report: Report) -> dict[str, Any]:
