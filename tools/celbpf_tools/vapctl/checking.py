@@ -14,6 +14,7 @@ from .cluster import NoState, State, is_namespace, namespace_named, of_policies,
 from .deciding import Deciding
 from .gate import Gate
 from .inputs import Inputs, Place, Thing, Trouble
+from .no_manifests import passed_over
 from .reports.texts import on_line
 from .reports.words import refuse_twice
 from .requests import Asked, NoReview, Reviews, UnknownKind
@@ -70,9 +71,16 @@ def read(given: argparse.Namespace) -> Sources:
     inputs.keeps_texts = False
     found.old = inputs.things(given.old)
     stop_at(inputs.troubles)
-    found.new = inputs.things(given.manifests)
-    found.troubles = inputs.troubles
+    take_manifests(given, found, inputs)
     return found
+
+
+def take_manifests(given: argparse.Namespace, found: Sources, inputs: Inputs) -> None:
+    """Reads the manifests, and tells which files of their folders are passed over."""
+    inputs.passed.clear()
+    found.new, found.troubles = inputs.things(given.manifests), inputs.troubles
+    if inputs.passed:
+        tell(passed_over(inputs.passed))
 
 
 def resources_of(things: list[Thing]) -> Resources:
@@ -87,6 +95,8 @@ def state_of(given: argparse.Namespace, found: Sources, resources: Resources) ->
     refuse_rules([*found.cluster, *found.policies, *found.params], found.texts)
     if given.cluster:
         state = saved(found.cluster)
+        if not state.policies and not state.bindings:
+            raise NoState([f"{', '.join(given.cluster)}: no ValidatingAdmissionPolicy and no binding: it is no state of a cluster"])
     else:
         params = [in_namespace(thing, resources, given.namespace) for thing in found.params]
         state = of_policies([in_namespace(thing, resources, given.namespace) for thing in found.policies], params)

@@ -15,12 +15,12 @@ from ..manifests.sending import with_name_label
 from . import yaml_texts
 from .json_texts import documents_of, looks_like_json, place_of
 from .located import Document, Located
+from .no_manifests import advice, names_kind, tool_for, why_no_object
 from .numbers import NotJson, sent
 
 STDIN = "-"
 # how standard input is called in messages and reports
 STDIN_NAME = "stdin"
-REVIEW = "AdmissionReview"
 # how an action of a template begins, which a map in a map seldom does
 ACTION = re.compile(r"\{\{[- .]")
 TEMPLATE = "; if it is a template of a chart, give what `helm template` prints"
@@ -100,6 +100,8 @@ class Inputs:
         self.has_stdin = False
         # which documents are taken of the files of a folder
         self.is_taken: Callable[[Any], bool] = names_kind
+        # the files of folders that have another document, with the tool that makes objects of it if there is one
+        self.passed: dict[str, str] = {}
         # the text of each file, if they are kept
         self.keeps_texts = keeps_texts
         self.texts: dict[str, str] = {}
@@ -157,6 +159,8 @@ class Inputs:
             for document in self.documents(name, text):
                 if not is_of_folder or self.is_taken(document.value):
                     found += self.of_document(name, document)
+                else:
+                    self.passed.setdefault(name, tool_for(name, document.value))
         except Unread as why:
             self.trouble(name, why.line, why.why)
         return found
@@ -237,7 +241,7 @@ class Inputs:
         while waiting:
             one = waiting.pop(0)
             if fault := why_no_object(one):
-                self.troubles.append(Trouble(place, fault))
+                self.troubles.append(Trouble(place, "; ".join(filter(None, (fault, advice(name, one))))))
             elif one["kind"].endswith("List") and isinstance(one.get("items"), list):
                 waiting = [*one["items"], *waiting]
             else:
@@ -258,20 +262,3 @@ def real_path(file: str) -> str:
         return os.path.realpath(file)
     except ValueError:
         return file
-
-
-def names_kind(value: Any) -> bool:
-    """Whether a document names what kind of object it is; an AdmissionReview is none of a cluster's."""
-    if not isinstance(value, dict) or value.get("kind") == REVIEW:
-        return False
-    return "apiVersion" in value or "kind" in value
-
-
-def why_no_object(value: Any) -> str:
-    """Why a value is no object of a cluster; empty if it is one."""
-    if not isinstance(value, dict):
-        return "it is not an object"
-    for key in ("apiVersion", "kind"):
-        if not isinstance(value.get(key), str) or not value[key]:
-            return f"the object has no {key}"
-    return ""

@@ -10,7 +10,8 @@ from ..entry import Stop
 from ..manifests.sending import object_sent
 from .checking import add_request_words, refuse_user, resources_of, stop, stop_at, tell
 from .cluster import POLICY, as_stored, is_of
-from .inputs import REVIEW, Inputs, Thing, Trouble
+from .inputs import Inputs, Thing, Trouble
+from .no_manifests import REVIEW
 from .requests import OPERATIONS, Asked, NoReview, Reviews
 from .statuses import REFUSED
 

@@ -4,7 +4,7 @@ import argparse
 import io
 import sys
 
-from ..checking import ALL_LEFT_OUT, Sources, add_request_words, prepared, refuse_user, resources_of, stop_at, tell
+from ..checking import ALL_LEFT_OUT, Sources, add_request_words, prepared, refuse_user, resources_of, stop_at, take_manifests, tell
 from ..inputs import Inputs
 from ..requests import OPERATIONS
 from ..statuses import GOOD, REFUSED
@@ -33,7 +33,7 @@ def read(given: argparse.Namespace) -> Sources:
     inputs = Inputs()
     found = Sources(inputs.things(given.cluster), old=inputs.things(given.old))
     stop_at(inputs.troubles)
-    found.new, found.troubles = inputs.things(given.manifests), inputs.troubles
+    take_manifests(given, found, inputs)
     return found
 
 

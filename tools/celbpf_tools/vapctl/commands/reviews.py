@@ -16,7 +16,8 @@ from ...manifests.sending import object_sent
 from ..checking import stop_at
 from ..cluster import POLICY, is_of
 from ..gate import answer_of
-from ..inputs import REVIEW, Inputs, Thing, Trouble
+from ..inputs import Inputs, Thing, Trouble
+from ..no_manifests import REVIEW
 from ..one_decision import add_programs, named, policy_text
 from ..refusals import words_of_refusal
 from ..reports.texts import on_line

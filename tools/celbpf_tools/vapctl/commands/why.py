@@ -11,7 +11,8 @@ from ..checking import Sources, gate_of, read, resources_of, state_of, stop, sto
 from ..cluster import NoState
 from ..cluster_why import ClusterWhy
 from ..deciding import Deciding
-from ..inputs import REVIEW, Inputs, Thing, Trouble
+from ..inputs import Inputs, Thing, Trouble
+from ..no_manifests import REVIEW
 from ..one_decision import Decision, add_words, named
 from ..refusals import words_of_refusal
 from ..reports.texts import on_line
