@@ -99,7 +99,7 @@ class Package(unittest.TestCase):
             words = "--help --cluster --old --namespace --user --group --operation --skip-unknown --allow-empty"
             self.assertIn(f"'vapctl as-reviews') echo '{words}'", text)
             self.assertIn("    vapctl) echo 'check audit state test reviews why debug lint compile translate as-reviews asm' ;;", text)
-            self.assertIn("'kubectl-vap state') echo '--help --from --to --context --kubeconfig --kubectl' ;;", text)
+            self.assertIn("'kubectl-vap state') echo '--help --from --to --partial --context --kubeconfig --kubectl' ;;", text)
             self.assertRegex(text, "gatekeeper\\) echo '--policy .*--cluster --partial --leave-messages --translate --help --version'")
 
     @unittest.skipUnless(is_checkout(), "the pages are in the repository")

@@ -10,11 +10,9 @@ from .cluster import BINDING, POLICY, is_of, policy_of, spec_of
 from .inputs import Inputs, Place, Thing, Trouble
 from .statuses import REFUSED
 
-# what each state has
-KINDS = (
-    "validatingadmissionpolicies.admissionregistration.k8s.io", "validatingadmissionpolicybindings.admissionregistration.k8s.io",
-    "namespaces", "customresourcedefinitions.apiextensions.k8s.io",
-)
+# what each state has; without one of the first two, or without params, it would decide otherwise than the cluster
+DECIDING = ("validatingadmissionpolicies.admissionregistration.k8s.io", "validatingadmissionpolicybindings.admissionregistration.k8s.io")
+KINDS = (*DECIDING, "namespaces", "customresourcedefinitions.apiextensions.k8s.io")
 
 
 @dataclass
@@ -61,34 +59,37 @@ def resource_of(api_version: str, kind: str, resources: Resources) -> Optional[s
 
 
 class Saving:
-    """The objects that a cluster gives, and what it does not."""
+    """The objects that a cluster gives, and what it does not; `lacks` tells whether a state without that decides otherwise."""
 
     def __init__(self, kubectl: Kubectl):
         self.kubectl = kubectl
         self.inputs = Inputs()
         self.things: list[Thing] = []
+        self.lacks = False
 
     @property
     def troubles(self) -> list[Trouble]:
         return self.inputs.troubles
 
-    def take(self, resource: str) -> None:
+    def take(self, resource: str, decides: bool) -> None:
         """Takes the objects of a resource."""
-        name = f"kubectl get {resource}"
+        name, before = f"kubectl get {resource}", len(self.troubles)
         try:
             self.things += self.inputs.of_text(name, self.kubectl.get(resource))
         except NotGiven as why:
             self.troubles.append(Trouble(Place(name), str(why)))
+        self.lacks = self.lacks or (decides and len(self.troubles) > before)
 
     def take_all(self) -> None:
         """Takes what the policies of the cluster need."""
         for resource in KINDS:
-            self.take(resource)
+            self.take(resource, resource in DECIDING)
         resources = Resources()
         resources.define([thing.value for thing in self.things])
         for (api_version, kind), policy in param_kinds(self.things).items():
             named = resource_of(api_version, kind, resources)
             if named is None:
                 self.troubles.append(Trouble(Place(f"policy {policy}"), f"the kind of its params, {api_version} {kind}, is not defined"))
+                self.lacks = True
             elif named not in KINDS:
-                self.take(named)
+                self.take(named, True)

@@ -2,12 +2,16 @@
 
 import argparse
 import json
+import os
+import stat
 import sys
 from collections import Counter
+from typing import Optional
 
 from ...entry import Stop
 from ...manifests.kinds import DEFINITION
 from ..checking import MADE_HERE, tell
+from ..choosing import chosen
 from ..cluster import BINDING, POLICY, NoState, is_namespace, is_of, namespace_named, policy_of, saved
 from ..inputs import Inputs, Thing
 from ..results import plural
@@ -15,9 +19,11 @@ from ..rules import refuse_rules
 from ..saving import Kubectl, Saving, param_kinds
 from ..statuses import GOOD, REFUSED
 
-MORE = """It runs `kubectl` and writes a List of policies, bindings, namespaces, CustomResourceDefinitions and the params of bound
-policies. It names what `kubectl` may not read, and then ends with status 3. With --from it takes the same of manifests,
-with the namespace `default` if they have none. If params are Secrets, the state is secret."""
+SECRET = ("v1", "Secret")
+MORE = """It runs `kubectl` and writes a List of policies, bindings, namespaces, CustomResourceDefinitions and the params that
+bindings can choose. It names what `kubectl` may not read, and then ends with status 3. If policies, bindings or params are
+among that, it writes nothing unless --partial is given. With --from it takes the same of manifests, with the namespace
+`default` if they have none. If params are Secrets, the state is secret: a file is then readable by its owner alone."""
 
 
 def words(parser: argparse.ArgumentParser) -> None:
@@ -25,6 +31,8 @@ def words(parser: argparse.ArgumentParser) -> None:
     parser.add_argument("--from", action="append", default=[], dest="manifests", metavar="F",
                         help="take a file or a folder of manifests, and run no kubectl; may be given several times")
     parser.add_argument("--to", metavar="FILE", help="write the state to a file, not to standard output")
+    parser.add_argument("--partial", action="store_true",
+                        help="also write a state that lacks policies, bindings or params that could not be read")
     parser.add_argument("--context", metavar="NAME", help="the context of kubectl")
     parser.add_argument("--kubeconfig", metavar="FILE", help="the configuration of kubectl")
     parser.add_argument("--kubectl", default="kubectl", metavar="PROGRAM", help="the kubectl to run (default: kubectl)")
@@ -32,43 +40,56 @@ def words(parser: argparse.ArgumentParser) -> None:
 
 def run(given: argparse.Namespace) -> int:
     """Writes the state."""
-    things, troubles = of_manifests(given.manifests) if given.manifests else of_cluster(given)
+    things, troubles, lacks = of_manifests(given.manifests) if given.manifests else of_cluster(given)
     for trouble in troubles:
         tell(str(trouble))
     if not any(is_of(thing, POLICY) for thing in things) and troubles:
         raise Stop("no policy could be read, and no state is written", REFUSED)
-    text = json.dumps({"apiVersion": "v1", "kind": "List", "items": [thing.value for thing in things]}, indent=2)
-    if given.to:
-        with open(given.to, "w", encoding="utf-8") as out:
-            out.write(text + "\n")
-    else:
-        sys.stdout.write(text + "\n")
+    if lacks and not given.partial:
+        raise Stop("no state is written, since it would decide otherwise without these; --partial writes it", REFUSED)
+    things = [*filter(is_needed, things), *(thing for thing in chosen(things) if not is_needed(thing))]
+    write(given.to, things)
     tell_counts(things)
     return REFUSED if troubles else GOOD
 
 
-def of_cluster(given: argparse.Namespace) -> tuple[list[Thing], list[object]]:
-    """The objects of a cluster, and what it does not give."""
+def write(name: Optional[str], things: list[Thing]) -> None:
+    """Writes the state to a file, or to standard output. A file with Secrets is for its owner alone."""
+    text = json.dumps({"apiVersion": "v1", "kind": "List", "items": [thing.value for thing in things]}, indent=2) + "\n"
+    secrets = sum((thing.api_version, thing.kind) == SECRET for thing in things)
+    if name is None:
+        sys.stdout.write(text)
+    else:
+        with open(os.open(name, os.O_WRONLY | os.O_CREAT | os.O_TRUNC, 0o600 if secrets else 0o666), "w", encoding="utf-8") as out:
+            if secrets and stat.S_ISREG(os.fstat(out.fileno()).st_mode):
+                os.fchmod(out.fileno(), 0o600)
+            out.write(text)
+    if secrets:
+        tell(f"it has {plural(secrets, 'Secret')}, and is secret" + (": only its owner can read the file" if name else ""))
+
+
+def of_cluster(given: argparse.Namespace) -> tuple[list[Thing], list[object], bool]:
+    """The objects of a cluster, what it does not give, and whether that decides."""
     options = (("--context", given.context), ("--kubeconfig", given.kubeconfig))
     saving = Saving(Kubectl(given.kubectl, [word for option, value in options if value for word in (option, value)]))
     saving.take_all()
-    return saving.things, list(saving.troubles)
+    return saving.things, list(saving.troubles), saving.lacks
 
 
-def of_manifests(files: list[str]) -> tuple[list[Thing], list[object]]:
-    """The objects of manifests that a state has, and what is not read."""
+def of_manifests(files: list[str]) -> tuple[list[Thing], list[object], bool]:
+    """The objects of manifests that a state has, what is not read, and whether there is such: anything may be in it."""
     inputs = Inputs(keeps_texts=True)
     try:
         things = inputs.things(files)
         refuse_rules(things, inputs.texts)
         state = saved(things)
     except NoState as why:
-        return [], [*inputs.troubles, *why.lines]
+        return [], [*inputs.troubles, *why.lines], True
     kinds = set(param_kinds(state.things))
     kept = [thing for thing in state.things if is_needed(thing) or (thing.api_version, thing.kind) in kinds]
     if not any(map(is_namespace, kept)):
         kept.append(namespace_named("default", MADE_HERE))
-    return kept, list(inputs.troubles)
+    return kept, list(inputs.troubles), bool(inputs.troubles)
 
 
 def is_needed(thing: Thing) -> bool:
