@@ -16,8 +16,10 @@ except ImportError:
 
 STDIN = "-"
 YAML_NAMES = (".yaml", ".yml")
-# PyYAML takes more texts for numbers and dates than a cluster does: 1:30 is a text there, and so is 2026-11-26
-NOT_RESOLVED = ("tag:yaml.org,2002:timestamp", "tag:yaml.org,2002:int", "tag:yaml.org,2002:float")
+# PyYAML takes more texts for numbers and dates than a cluster does: 1:30 is a text there, and so are 2026-11-26 and =
+NOT_RESOLVED = ("tag:yaml.org,2002:timestamp", "tag:yaml.org,2002:int", "tag:yaml.org,2002:float", "tag:yaml.org,2002:value")
+# which `kubectl` takes for bools beside `yes` and `no`, and PyYAML does not
+LETTERS = {"y": True, "n": False}
 # the tag of the key `<<`, which may be there twice
 MERGE = "tag:yaml.org,2002:merge"
 # the most lists and maps that are inside one another; only texts with so many brackets, or a line that begins with so
@@ -68,7 +70,7 @@ def json_fault(text: str) -> Optional[str]:
 
 
 def loader(base: Any = None) -> Any:
-    """A loader of YAML that takes numbers as a cluster does, and dates as texts; `base` is a safe loader of the package."""
+    """A loader of YAML that takes numbers and bools as a cluster does, and dates as texts; `base` is a safe loader of the package."""
 
     class Loader(base or yaml.SafeLoader):  # type: ignore[misc]
         """YAML 1.1 without dates and without numbers to the base of 60."""
@@ -77,6 +79,8 @@ def loader(base: Any = None) -> Any:
         first: [(tag, found) for tag, found in pairs if tag not in NOT_RESOLVED]
         for first, pairs in yaml.SafeLoader.yaml_implicit_resolvers.items()
     }
+    Loader.bool_values = {**yaml.SafeLoader.bool_values, **LETTERS}
+    Loader.add_implicit_resolver("tag:yaml.org,2002:bool", re.compile("[yYnN]$"), list("yYnN"))
     Loader.add_implicit_resolver("tag:yaml.org,2002:int", INT, list("-+0123456789"))
     Loader.add_implicit_resolver("tag:yaml.org,2002:float", FLOAT, list("-+0123456789."))
     return Loader

@@ -55,6 +55,11 @@ class Yaml(Files):
         path = self.file("a.yaml", "a: 2026-11-26\nb: 1:30\nc: 0x10\nd: 1.5\ne: true\n")
         self.assertEqual(documents.one_in(path), {"a": "2026-11-26", "b": "1:30", "c": 16, "d": 1.5, "e": True})
 
+    def test_texts_and_bools_as_kubectl_reads_them(self) -> None:
+        path = self.file("a.yaml", "a: [y, Y, n, N, yes, 'y', yy, nY]\nb: [=, ==]\nc:\n- =\n")
+        bools = [True, True, False, False, True, "y", "yy", "nY"]
+        self.assertEqual(documents.one_in(path), {"a": bools, "b": ["=", "=="], "c": ["="]})
+
     def test_place_of_a_yaml_fault(self) -> None:
         self.assertRegex(self.refused(self.file("a.yaml", "a: [1\nb: 2\n")), r"^a.yaml: .* at line 2 column 2$")
 
@@ -63,8 +68,8 @@ class Yaml(Files):
         self.assertEqual(self.refused(path), "a.yaml: the key 'c' of line 4 is repeated at line 5 column 3")
 
     def test_a_merge_may_be_repeated_and_overridden(self) -> None:
-        path = self.file("a.yaml", "a: &a {x: 1, y: 1}\nb: &b {<<: *a, <<: {z: 2}, x: 3}\nc: {<<: *b, x: 4}\n")
-        self.assertEqual(documents.one_in(path)["c"], {"x": 4, "y": 1, "z": 2})
+        path = self.file("a.yaml", "a: &a {x: 1, w: 1}\nb: &b {<<: *a, <<: {z: 2}, x: 3}\nc: {<<: *b, x: 4}\n")
+        self.assertEqual(documents.one_in(path)["c"], {"x": 4, "w": 1, "z": 2})
 
     def test_a_map_that_aliases_repeat_is_read_once(self) -> None:
         lines = ["a0: &a0 {x: 1}", *(f"a{n}: &a{n} [*a{n - 1}, *a{n - 1}]" for n in range(1, 60))]

@@ -104,6 +104,11 @@ class Yaml(Read):
         flow = '{apiVersion: v1, kind: Node, metadata: {name: "a"}}\n---\n{"apiVersion": "v1", "kind": "Node", "metadata": {}}\n'
         self.assertEqual(self.read(self.file("b.yaml", flow)), (["b.yaml:1 Node a", "b.yaml:3 Node"], []))
 
+    def test_an_equals_sign_and_single_letters(self) -> None:
+        inputs = Inputs()
+        (thing,) = inputs.things([str(self.file("a.yaml", "apiVersion: v1\nkind: Node\nenum:\n- =\n- y\n- N\ny: 1\n"))])
+        self.assertEqual((inputs.troubles, thing.value["enum"], thing.value["true"]), ([], ["=", True, False], 1))
+
     def test_what_is_before_a_fault_is_read(self) -> None:
         things, troubles = self.read(self.file("a.yaml", "apiVersion: v1\nkind: Node\n---\na: [\n"))
         self.assertEqual(things, ["a.yaml:1 Node"])

@@ -1,6 +1,7 @@
 """The review of each object, as an API server would send it."""
 
 import json
+from collections.abc import Iterator
 from dataclasses import dataclass, field
 from typing import Any, Optional
 
@@ -12,6 +13,7 @@ from .numbers import undecided_numbers
 from .quantities import write_quantities
 
 OPERATIONS = ("CREATE", "UPDATE", "DELETE")
+QUOTED = "; write it in quotes"
 # the most numbers of an object that a message names
 MOST_NUMBERS = 3
 
@@ -24,6 +26,16 @@ class Asked:
     operation: str = ""
     user: Optional[str] = None
     groups: list[str] = field(default_factory=list)
+
+
+def texts_of(metadata: dict[str, Any]) -> Iterator[tuple[str, Any]]:
+    """What an API server takes of metadata if it is a text alone, each with its path."""
+    for key in ("name", "namespace", "generateName"):
+        yield key, metadata.get(key)
+    for key in ("labels", "annotations"):
+        texts = metadata.get(key)
+        for name, one in texts.items() if isinstance(texts, dict) else ():
+            yield f"{key}[{json.dumps(name)}]", one
 
 
 class NoReview(Exception):
@@ -52,9 +64,9 @@ class Reviews:
             if meant := advice(thing.api_version, thing.kind):
                 raise NoReview(f"{told}: {meant}")
             raise UnknownKind(told)
-        for key in ("name", "namespace", "generateName"):
-            if not isinstance(thing.metadata.get(key, ""), (str, type(None))):
-                raise NoReview(f"metadata.{key} is not a text")
+        for path, one in texts_of(thing.metadata):
+            if not isinstance(one, (str, type(None))):
+                raise NoReview(f"metadata.{path} is {json.dumps(one)}, which is not a text" + QUOTED * isinstance(one, (bool, int, float)))
         value = placed(thing.value, resource, self.asked.namespace)
         write_quantities(value)
         return value, resource
