@@ -74,11 +74,12 @@ class Rules(Files):
         rule = '{"apiGroups": [],\n"apiVersions": ["v1"],\n"operations": ["create"]}'
         text = '{"metadata": {},\n"spec": {"matchConstraints": {"resourceRules": [%s]}}}' % rule
         spec = {"matchConstraints": {"resourceRules": [{"apiGroups": [], "apiVersions": ["v1"], "operations": ["create"]}]}}
+        path = str(self.file("p.json", text))
         with self.assertRaises(NoState) as raised:
-            refuse_rules([thing(POLICY, spec), thing(POLICY, spec, "other.yaml")], {"p.yaml": text})
-        lines = [line.split(" ")[0] for line in raised.exception.lines]
+            refuse_rules([thing(POLICY, spec, path), thing(POLICY, spec, "other.yaml")])
+        lines = [line.split(" ")[0].removeprefix(f"{self.folder}/") for line in raised.exception.lines]
         # the resources would be in the rule, which begins in line 2
-        self.assertEqual(lines, ["p.yaml:4:", "p.yaml:2:", "p.yaml:2:", *["other.yaml:1:"] * 3])
+        self.assertEqual(lines, ["p.json:4:", "p.json:2:", "p.json:2:", *["other.yaml:1:"] * 3])
 
 
 if __name__ == "__main__":

@@ -38,8 +38,6 @@ class Sources:
     old: list[Thing] = field(default_factory=list)
     new: list[Thing] = field(default_factory=list)
     troubles: list[Trouble] = field(default_factory=list)
-    # of the files that policies may be in
-    texts: dict[str, str] = field(default_factory=dict)
 
 
 def tell(line: str) -> None:
@@ -62,13 +60,12 @@ def stop_at(troubles: list[Trouble]) -> None:
 
 def read(given: argparse.Namespace) -> Sources:
     """Reads all inputs. What cannot be read of a state, of policies or of params ends the command."""
-    inputs = Inputs(keeps_texts=True)
-    found, seen = Sources(inputs.things(given.cluster), texts=inputs.texts), set[str]()
+    inputs = Inputs()
+    found, seen = Sources(inputs.things(given.cluster)), set[str]()
     # a file that is among both has params
     found.params = inputs.things(given.params, seen)
     found.policies = inputs.things(given.policies, seen)
     stop_at(inputs.troubles)
-    inputs.keeps_texts = False
     found.old = inputs.things(given.old)
     stop_at(inputs.troubles)
     take_manifests(given, found, inputs)
@@ -92,7 +89,7 @@ def resources_of(things: list[Thing]) -> Resources:
 
 def state_of(given: argparse.Namespace, found: Sources, resources: Resources) -> State:
     """The state of the cluster, or one in which the given policies are bound."""
-    refuse_rules([*found.cluster, *found.policies, *found.params], found.texts)
+    refuse_rules([*found.cluster, *found.policies, *found.params])
     if given.cluster:
         state = saved(found.cluster)
         if not state.policies and not state.bindings:

@@ -4,7 +4,9 @@ A rule that it would not store matches nothing, such as one with the operation `
 """
 
 import json
-from collections.abc import Iterator, Mapping
+import os
+import pathlib
+from collections.abc import Iterator
 from dataclasses import dataclass
 from typing import Any, Optional
 
@@ -124,15 +126,23 @@ def position_of(thing: Thing, path: Path, marks: Optional[Marks]) -> Position:
     return next((one for one in found if one.column), first)
 
 
-def refuse_rules(things: list[Thing], texts: Mapping[str, str]) -> None:
-    """Refuses objects with rules that are not stored; `texts` are those of their files."""
-    told, marks = [], dict[str, Marks]()
+def marks_of(file: str) -> Optional[Marks]:
+    """The places in a file, if it can be read again."""
+    try:
+        return Marks(pathlib.Path(file).read_text(encoding="utf-8-sig")) if os.path.isfile(file) else None
+    except (OSError, ValueError):
+        return None
+
+
+def refuse_rules(things: list[Thing]) -> None:
+    """Refuses objects with rules that are not stored. The files of these alone are read again."""
+    told, marks = [], dict[str, Optional[Marks]]()
     for thing in things:
         file = thing.place.file
         for one in refusals(thing):
-            if file in texts and file not in marks:
-                marks[file] = Marks(texts[file])
-            line = position_of(thing, one.path, marks.get(file)).line
+            if file not in marks:
+                marks[file] = marks_of(file)
+            line = position_of(thing, one.path, marks[file]).line
             told.append(f"{file}:{line}: {thing.title}: {one.key}: {one.meaning} ({CODES[thing.kind]})")
     if told:
         raise NoState(told)

@@ -78,10 +78,10 @@ def of_cluster(given: argparse.Namespace) -> tuple[list[Thing], list[object], bo
 
 def of_manifests(files: list[str]) -> tuple[list[Thing], list[object], bool]:
     """The objects of manifests that a state has, what is not read, and whether there is such: anything may be in it."""
-    inputs = Inputs(keeps_texts=True)
+    inputs = Inputs()
     try:
         things = inputs.things(files)
-        refuse_rules(things, inputs.texts)
+        refuse_rules(things)
         state = saved(things)
     except NoState as why:
         return [], [*inputs.troubles, *why.lines], True
@@ -101,6 +101,8 @@ def tell_counts(things: list[Thing]) -> None:
     """Tells how many objects of each kind there are, and which policies are not bound."""
     counts = Counter(thing.kind for thing in things)
     tell(f"{plural(len(things), 'object')}: {', '.join(f'{kind} {count:,}' for kind, count in counts.items()) or 'none'}")
+    if not any(is_of(thing, POLICY) or is_of(thing, BINDING) for thing in things):
+        tell("it has no policy and no binding, and `vapctl check` does not take it")
     bound = {policy_of(thing) for thing in things if is_of(thing, BINDING)}
     for thing in things:
         if is_of(thing, POLICY) and thing.name not in bound:
