@@ -7,7 +7,7 @@ from unittest import mock
 
 from ..entry import Stop
 from ..vapctl.commands import lint
-from ..vapctl.main import main
+from ..vapctl.main import main, similar
 
 
 class Ends(unittest.TestCase):
@@ -33,3 +33,9 @@ class Ends(unittest.TestCase):
         for error, status in rows:
             with self.subTest(repr(error)):
                 self.assertEqual(self.ended(error), status)
+
+    def test_what_may_be_meant(self) -> None:
+        known = ["--policy", "--params", "--old", "--namespace", "--namespace-object"]
+        for word, due in (("--pol", "--policy"), ("--name", "--namespace"), ("--odl", "--old"), ("--polcy", "--policy")):
+            self.assertEqual(similar(word, known), f"; there is {due}")
+        self.assertEqual(similar("--xyz", known), "")

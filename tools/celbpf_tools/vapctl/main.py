@@ -55,8 +55,8 @@ def parser(name: str = "vapctl", chosen: Optional[str] = None) -> argparse.Argum
 
 
 def similar(word: str, known: Iterable[str]) -> str:
-    """What may be meant by a word that is not known."""
-    near = difflib.get_close_matches(word, known, 1)
+    """What may be meant by a word that is not known: one that begins so, or else one that is alike."""
+    near = sorted((one for one in known if one.startswith(word)), key=len) or difflib.get_close_matches(word, known, 1)
     return f"; there is {near[0]}" if near else ""
 
 
