@@ -78,6 +78,20 @@ class Forms(unittest.TestCase):
         self.assertIn("a.yaml:1: ConfigMap dev/clean\n  allowed\n", written(table.write, False, True))
         self.assertIn("\x1b[31mdenied\x1b[0m     p     no\n", written(table.write, True, False))
 
+    def test_long_names_of_policies(self) -> None:
+        long = "a" * 60
+        findings = Finding("p", "", DENY, "no"), Finding(long, "", WARN, "hm")
+        found = written(table.write, False, False, of=Report([result("bad", Place("a.yaml", 7), DENIED, *findings)])).splitlines()
+        self.assertEqual(found[1:3], [f"  denied  {'p':60}  no", f"  warns   {long}  hm"])
+
+    def test_what_is_audited_beside_another_action(self) -> None:
+        findings = Finding("p", "", WARN, "hm", True), Finding("q", "", AUDIT, "so", True), Finding("r", "", DENY, "no")
+        found = json.loads(written(jsons.write, of=Report([result("bad", Place("a.yaml", 7), DENIED, *findings)])))
+        self.assertEqual(found["byPolicy"], {"p": {"warned": 1, "audited": 1}, "q": {"audited": 1}, "r": {"denied": 1}})
+        self.assertEqual(found["byKind"]["ConfigMap"], {"objects": 1, "denied": 1, "warned": 1, "audited": 1})
+        self.assertEqual([one.get("audited") for one in found["results"][0]["findings"]], [True, True, None])
+        self.assertEqual((found["summary"]["warnings"], found["summary"]["audited"]), (1, 1))
+
     def test_no_text_is_obeyed_by_a_terminal(self) -> None:
         found = written(table.write, False, True)
         self.assertFalse(set(found) & set(map(chr, [*range(10), *range(11, 32), 127])))

@@ -3,18 +3,23 @@
 from collections import Counter
 from collections.abc import Callable, Iterator
 
-from .results import ALLOWED, AUDIT, DENY, ERROR, WARN, Report, Result
+from .results import ALLOWED, AUDIT, DENY, ERROR, WARN, Finding, Report, Result
 
 # how a policy that does not decide is counted, and an object that is not decided before any is asked
 ACTIONS = {DENY: "denied", WARN: "warned", AUDIT: "audited", ERROR: "undecided"}
 COLUMNS = ("objects", ALLOWED, *ACTIONS.values())
 
 
+def actions_of(finding: Finding) -> list[str]:
+    """What a finding is counted as."""
+    return [finding.action, AUDIT] if finding.is_audited else [finding.action]
+
+
 def by_policy(report: Report) -> dict[str, Counter[str]]:
     """By policy the number of objects with a finding of each action, also of policies that find nothing."""
     found: dict[str, Counter[str]] = {name: Counter() for name in report.policies}
     for result in report.results:
-        for policy, action in dict.fromkeys((one.policy, one.action) for one in result.findings):
+        for policy, action in dict.fromkeys((one.policy, action) for one in result.findings for action in actions_of(one)):
             if policy:
                 found.setdefault(policy, Counter())[ACTIONS[action]] += 1
     return dict(sorted(found.items()))
@@ -24,7 +29,7 @@ def states(result: Result) -> Iterator[str]:
     """What an object is counted as: with an outcome, and with warnings and findings for the audit log if it has some."""
     yield "objects"
     yield result.outcome
-    actions = {one.action for one in result.findings}
+    actions = {action for one in result.findings for action in actions_of(one)}
     yield from (ACTIONS[action] for action in (WARN, AUDIT) if action in actions)
 
 

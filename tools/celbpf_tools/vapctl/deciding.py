@@ -137,14 +137,14 @@ class Deciding:
         for text in answer.warnings:
             match = WARNING.fullmatch(text)
             policy, binding, message = match.groups() if match else ("", "", text)
-            found.append(Finding(policy, self.shown(policy, binding), self.action(policy, binding), message))
+            found.append(Finding(policy, self.shown(policy, binding), self.action(policy, binding), message, self.audits(policy, binding)))
         return found
 
     def of_denial(self, answer: Answer) -> Finding:
         """The finding in the message of a denial."""
         match = DENIAL.search(answer.message)
         policy, binding, message = match.groups() if match else ("", "", answer.message)
-        return Finding(policy, self.shown(policy, binding or ""), DENY, message)
+        return Finding(policy, self.shown(policy, binding or ""), DENY, message, self.audits(policy, binding or ""))
 
     def error(self, answer: Answer, line: str, binding: str = "") -> Finding:
         """The policy that does not decide, and why."""
@@ -156,6 +156,10 @@ class Deciding:
     def shown(self, policy: str, binding: str) -> str:
         """The name of a binding, empty if it was made here."""
         return "" if policy in self.state.made else binding
+
+    def audits(self, policy: str, binding: str) -> bool:
+        """Whether a binding writes the audit log."""
+        return "Audit" in self.actions.get((policy, binding), [])
 
     def action(self, policy: str, binding: str) -> str:
         """The most severe of a binding's actions."""

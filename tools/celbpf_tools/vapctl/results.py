@@ -12,12 +12,15 @@ DENY, WARN, AUDIT, ERROR = "deny", "warn", "audit", "error"
 
 @dataclass(frozen=True)
 class Finding:
-    """What a policy finds by one of its bindings. `policy` is empty if the request is denied before any is asked."""
+    """What a policy finds by one of its bindings. `policy` is empty if the request is denied before any is asked. `action` is
+    the most severe of the binding, and `is_audited` tells whether it also writes the audit log.
+    """
 
     policy: str
     binding: str
     action: str
     message: str
+    is_audited: bool = False
 
 
 @dataclass

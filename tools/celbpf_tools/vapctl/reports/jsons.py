@@ -6,6 +6,9 @@ from typing import Any, TextIO
 from ..counts import by_kind, by_namespace, by_policy
 from ..results import ALLOWED, AUDIT, DENIED, ERROR, UNDECIDED, WARN, Report, Result
 
+# how keys of a finding are called that have another name in JSON
+KEYS = {"is_audited": "audited"}
+
 
 def object_of(result: Result) -> dict[str, Any]:
     """What names an object."""
@@ -16,7 +19,7 @@ def object_of(result: Result) -> dict[str, Any]:
 
 def result_of(result: Result) -> dict[str, Any]:
     """A result. `message` is the one that the cluster sends with a denial."""
-    findings = [{key: value for key, value in vars(one).items() if value} for one in result.findings]
+    findings = [{KEYS.get(key, key): value for key, value in vars(one).items() if value} for one in result.findings]
     place: dict[str, Any] = {"file": result.place.file, "line": result.place.line}
     made = {**place, "object": object_of(result), "outcome": result.outcome, "findings": findings}
     return {**made, "message": result.message} if result.message else made

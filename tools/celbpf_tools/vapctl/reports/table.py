@@ -8,8 +8,6 @@ from .texts import on_line
 
 WORDS = {DENY: "denied", WARN: "warns", AUDIT: "audits", ERROR: "undecided"}
 COLOURS = {DENY: "31", WARN: "33", AUDIT: "36", ERROR: "35", ALLOWED: "32"}
-# the widest column of policies that others are aligned to
-WIDEST = 40
 
 
 class Table:
@@ -19,7 +17,7 @@ class Table:
         self.report, self.colour, self.verbose = report, colour, verbose
         found = [one for result in report.results for one in result.findings]
         self.words = max((len(WORDS[one.action]) for one in found), default=0)
-        self.policies = max((min(len(on_line(one.policy)), WIDEST) for one in found), default=0)
+        self.policies = max((len(on_line(one.policy)) for one in found), default=0)
 
     def painted(self, text: str, action: str) -> str:
         """A text in the colour of an action."""
