@@ -10,6 +10,7 @@ from typing import Any, Callable, NoReturn
 from ..asking.program import located_gatekeeper
 from ..entry import Stop
 from ..manifests.kinds import Resources
+from . import unlabelled
 from .cluster import NoState, State, is_namespace, namespace_named, of_policies, policy_of, saved, spec_of
 from .deciding import Deciding
 from .gate import Gate
@@ -129,14 +130,20 @@ class Prepared:
     left_out: int = 0
 
 
-def prepared(given: argparse.Namespace, found: Sources, resources: Resources) -> Prepared:
-    """The review of each object. One that has none is not decided, or left out if its kind is not known."""
-    reviews = Reviews(resources, Asked(given.namespace, given.operation or "", given.user, given.groups))
-    for thing in found.old:
+def add_old(reviews: Reviews, old: list[Thing], skips_unknown: bool = False) -> None:
+    """Takes the objects of --old. One that is none ends the command; one whose kind is not known may be left out."""
+    for thing in old:
         try:
             reviews.add_old(thing)
         except NoReview as why:
-            stop_at([Trouble(thing.place, f"{thing.title}: {why}")])
+            if not skips_unknown or not isinstance(why, UnknownKind):
+                stop_at([Trouble(thing.place, f"{thing.title} of --old: {why}")])
+
+
+def prepared(given: argparse.Namespace, found: Sources, resources: Resources) -> Prepared:
+    """The review of each object. One that has none is not decided, or left out if its kind is not known."""
+    reviews = Reviews(resources, Asked(given.namespace, given.operation or "", given.user, given.groups))
+    add_old(reviews, found.old, given.skip_unknown)
     made = Prepared()
     for thing in found.new:
         try:
@@ -186,6 +193,7 @@ def report_of(given: argparse.Namespace, progress: Callable[[], None] = lambda: 
         except NoState as why:
             stop(why.lines)
         warn(given, deciding)
+        tell_unlabelled(deciding.state, resources, made.asked)
         for result, answer in zip(made.asked, deciding.decide(made.lines)):
             result.outcome, result.message, result.findings = answer
     refused = list(deciding.blocked) if given.policies else []
@@ -215,6 +223,14 @@ def warn(given: argparse.Namespace, deciding: Deciding) -> None:
     for policy in deciding.state.policies if given.user is None else ():
         if policy.name in deciding.policies and "userInfo" in str(spec_of(policy)):
             tell(f"policy {policy.name} reads request.userInfo, which no request has without --user")
+
+
+def tell_unlabelled(state: State, resources: Resources, asked: list[Result]) -> None:
+    """Tells which policies and bindings select namespaces by labels that those that are made here do not have."""
+    made = {one.name for one in state.things if is_namespace(one) and one.place == MADE_HERE}
+    found = {(resources.of(one.thing.value), one.namespace) for one in asked if one.namespace in made}
+    for line in unlabelled.told(state, {(resource, namespace) for resource, namespace in found if resource is not None}):
+        tell(line)
 
 
 def add_request_words(parser: argparse.ArgumentParser) -> Any:

@@ -30,10 +30,13 @@ class NoState(Exception):
 
 @dataclass
 class State:
-    """The objects of a cluster. `made` has the policies whose bindings are made here, since none was given."""
+    """The objects of a cluster. `made` has the policies whose bindings are made here, since none was given; `is_given` tells
+    whether the policies are given ones.
+    """
 
     things: list[Thing] = field(default_factory=list)
     made: set[str] = field(default_factory=set)
+    is_given: bool = False
 
     def of(self, kind: str) -> list[Thing]:
         """The policies or the bindings."""
@@ -160,7 +163,7 @@ def of_policies(things: list[Thing], params: list[Thing]) -> State:
     """
     kinds = [spec_of(one).get("paramKind") for one in (*things, *params) if is_of(one, POLICY)]
     state = saved([*(one for one in things if not params or is_namespace(one) or not is_any(one, kinds)), *params])
-    bound = {policy_of(binding) for binding in state.bindings}
+    bound, state.is_given = {policy_of(binding) for binding in state.bindings}, True
     for policy in state.policies:
         if policy.name not in bound:
             state.made.add(policy.name)

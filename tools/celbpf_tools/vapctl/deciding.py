@@ -11,10 +11,11 @@ from pathlib import Path
 from typing import Any, Iterator
 
 from ..asking.gatekeeper import REFUSAL, without_file
-from .cluster import EVERYTHING, NoState, State, key_of, policy_of, spec_of
+from ..manifests.kinds import Resources
+from .cluster import EVERYTHING, NoState, State, is_any, key_of, policy_of, spec_of
 from .gate import Answer, Gate
 from .inputs import Thing
-from .refusals import why_blocked
+from .refusals import NO_KIND, why_blocked
 from .requests import why_no_ints
 from .results import ALLOWED, AUDIT, DENIED, DENY, ERROR, UNDECIDED, WARN, Finding
 
@@ -58,7 +59,17 @@ class Deciding:
         for found in filter(None, map(LISTED.match, lines)):
             self.policies.append(found[1])
             if found[2]:
-                self.blocked[found[1]] = why_blocked(found[2])
+                self.blocked[found[1]] = why_blocked(found[2], self.no_params(found[1]))
+
+    def no_params(self, policy: str) -> str:
+        """What is to be given if the kind of a policy's params is not known: of a kind that is built in no definition."""
+        kinds = [spec_of(one).get("paramKind") for one in self.state.policies if one.name == policy]
+        kind = kinds[0] if kinds and isinstance(kinds[0], dict) else {}
+        known = {"apiVersion": str(kind.get("apiVersion")), "kind": str(kind.get("kind"))}
+        if Resources().of(known) is None or any(is_any(one, [kind]) for one in self.state.things):
+            return NO_KIND
+        what = f"{kind['kind']}, the kind of its params"
+        return f"no {what}, is among the inputs: give --params" if self.state.is_given else f"the state has no {what}"
 
     def fault(self, line: str) -> str:
         """Why the state is refused, with the place of the object that the line names."""
@@ -126,7 +137,8 @@ class Deciding:
         for (place, (line, _)), answer in zip(asked.items(), answers):
             new = self.of_warnings(answer)
             if answer.refused:
-                new.append(self.error(answer, line, binding.name))
+                # a policy that is blocked is so under each binding
+                new.append(self.error(answer, line, "" if answer.policy in self.blocked else binding.name))
             elif not answer.allowed:
                 new.append(self.of_denial(answer))
             found[place] += [one for one in new if one not in found[place]]

@@ -8,7 +8,7 @@ from typing import Any, Optional
 
 from ..entry import Stop
 from ..manifests.sending import object_sent
-from .checking import add_request_words, refuse_user, resources_of, stop, stop_at, tell
+from .checking import add_old, add_request_words, refuse_user, resources_of, stop, stop_at, tell
 from .cluster import POLICY, as_stored, is_of
 from .inputs import Inputs, Thing, Trouble
 from .no_manifests import REVIEW
@@ -44,6 +44,10 @@ def named(things: list[Thing], name: Optional[str], what: str, option: str) -> T
     found = f"{listed}{', ..' if len(things) > MOST_NAMES else ''}"
     if name is None:
         stop([f"{len(things)} objects for one {what}: {found}{f'; {option} NAME chooses one' * bool(option)}"])
+    if chosen:
+        told = ", ".join(f"{one.kind}/{one.name} ({one.place})" for one in chosen[:MOST_NAMES])
+        use = "give the file of one" if "/" in name or option == "--name" else "use KIND/NAME"
+        stop([f"several are called {name}: {told}; {use}"])
     stop([f"no {what} is called {name}; there are {found}"])
 
 
@@ -114,9 +118,8 @@ class Decision:
         defined = [thing for file in given.definitions for thing in self.read(file)]
         reviews = Reviews(resources_of([self.review, *old, *defined]),
                           Asked(given.namespace, given.operation or "", given.user, given.groups))
+        add_old(reviews, old)
         try:
-            for one in old:
-                reviews.add_old(one)
             return str(reviews.text(self.review, "1")[1])
         except NoReview as why:
             stop_at([Trouble(self.review.place, f"{self.review.title}: {why}")])

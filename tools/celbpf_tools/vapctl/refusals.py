@@ -2,7 +2,7 @@
 
 from ..asking.refused import MEANINGS
 
-BLOCKED = {"C8": "the kind of its params is not among the inputs: give a definition of it, or an object"}
+NO_KIND = "the kind of its params is not among the inputs: give a definition of it, or an object"
 NO_NAMESPACE = "a match condition reads namespaceObject, which is null there in a cluster: write dyn(null)"
 NAMES_KEY = "; `vapctl lint` names the key"
 # the number of words of a refusal of an expression before its place, as in `K6 validation 0 P4 at 7`
@@ -43,9 +43,11 @@ def words_of_refusal(line: str) -> str:
     return f"{OTHERS[line]} ({line})" if line in OTHERS else line
 
 
-def why_blocked(blocked: str) -> str:
-    """Why the gatekeeper does not decide a policy of a cluster, by what it says of it at its start."""
+def why_blocked(blocked: str, no_params: str = NO_KIND) -> str:
+    """Why the gatekeeper does not decide a policy of a cluster, by what it says of it at its start; `no_params` is said if the
+    kind of its params is not known.
+    """
     code, _, refusal = blocked.partition(" ")
     if code == "C7":
         return NO_NAMESPACE if refusal == "namespaceObject" else words_of(refusal)
-    return f"{BLOCKED[code]} ({code})" if code in BLOCKED else blocked
+    return f"{no_params} (C8)" if code == "C8" else blocked

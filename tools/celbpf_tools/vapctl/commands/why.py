@@ -7,7 +7,7 @@ from pathlib import Path
 from ...asking.program import NotAnswered, located
 from ...entry import Stop
 from .. import telling
-from ..checking import Sources, gate_of, read, resources_of, state_of, stop, stop_at
+from ..checking import Sources, add_old, gate_of, read, resources_of, state_of, stop, stop_at
 from ..cluster import NoState
 from ..cluster_why import ClusterWhy
 from ..deciding import Deciding
@@ -121,9 +121,8 @@ def review_line(given: argparse.Namespace, found: Sources, review: Thing) -> str
     defined = [thing for file in given.definitions for thing in read_definitions(file)]
     things = [*found.cluster, *found.policies, *found.params, *found.new, *defined]
     reviews = Reviews(resources_of(things), Asked(given.namespace, given.operation or "", given.user, given.groups))
+    add_old(reviews, found.old)
     try:
-        for one in found.old:
-            reviews.add_old(one)
         return reviews.text(review, "1")[1]
     except NoReview as fault:
         stop_at([Trouble(review.place, f"{review.title}: {fault}")])
