@@ -159,6 +159,8 @@ def meant(name: str) -> str:
         return "; there is none: negate the register and add it"
     if re.fullmatch(r"atomic_[a-z_]+(8|16)", name):
         return "; atomic operations have 32 or 64 bits"
+    if f"{name}32" in FORMS and f"{name}64" in FORMS:
+        return f"; there are `{name}32` and `{name}64`"
     # a near name with another meaning helps nobody: one letter may turn a comparison round
     near = difflib.get_close_matches(name, list(FORMS), 1, 0.8)
     return f"; there is `{near[0]}`" if near else "; docs/MACHINE.md lists them"

@@ -87,7 +87,7 @@ class Advice(unittest.TestCase):
             ("je64 r1, 0, +1", "write `jeq64`"), ("xadd64 [r1], r2", "write `atomic_add64`"), (".text", "write `.code`"), ("ret", "write `exit`"),
             ("atomic_fetch_xchg64 [r1], r2", "write `atomic_xchg64`"), ("atomic_sub64 [r1], r2", "negate the register"), ("nop", "write `ja +0`"),
             ("atomic_add8 [r1], r2", "32 or 64 bits"), ("MOV64 r1, 1", "lower case"), ("mov64 R1, 1", "lower case"), ("mov64 r1, R2", "lower case"),
-            ("foo", "docs/MACHINE.md"), ("mov64 r0, 0xffffffff", "lddw loads 64 bits"), ("mov32 r0, 0xffffffff", "-1 has the same bits"),
+            ("foo", "docs/MACHINE.md"), ("mov r1, 1", "there are `mov32` and `mov64`"), ("mov64 r0, 0xffffffff", "lddw loads 64 bits"), ("mov32 r0, 0xffffffff", "-1 has the same bits"),
             ("stw [r1], 0xdeadbeef", "-559038737 has the same bits"), ("stdw [r1], 0xdeadbeef", "lddw loads 64 bits"),
             ("jeq32 r1, 0x80000000, +0", "-2147483648 has the same bits"), ("ja32 +2147483648", "32 bits signed"), ("a-b:", "letters, digits"),
             ('.constants\nx: "a"\nmov64 r0, 1', "a line `.code` ends"), ('.constants\nx: "a"\n.code\nmov64 r0, x', "`x.size` is its size"),

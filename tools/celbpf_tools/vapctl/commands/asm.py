@@ -11,6 +11,7 @@ from ...asking.texts import escaped, pointed
 from ...assembling.images import image_of
 from ...assembling.programs import Program, read
 from ...entry import Stop
+from ..checking import tell
 from ..inputs import STDIN, STDIN_NAME
 from ..refusals import words_of_refusal
 from ..results import plural
@@ -48,7 +49,7 @@ def run(given: argparse.Namespace) -> int:
     if given.plain or not given.output:
         write(given.plain or STDIN, program.plain)
         if program.constants.bytes and not given.output:
-            print(f"vapctl: this text has no constants; -o IMAGE writes the {plural(len(program.constants.bytes), 'byte')} of them too", file=sys.stderr)
+            tell(f"this text has no constants; -o IMAGE writes the {plural(len(program.constants.bytes), 'byte')} of them too")
     return GOOD
 
 
