@@ -12,7 +12,7 @@ TYPES = ("int", "uint", "double", "string", "bool", "bytes", "null_type", "list"
 # functions and methods of API servers that are not supported, and what to write instead, if it is known
 LATER = {
     "matches": "startsWith, endsWith or contains for a fixed text, `e in ['a', 'b']` for a choice",
-    "split": "`(',' + e + ',').contains(',' + x + ',')` for `x in e.split(',')`, `e.startsWith('a/')` for a first part",
+    "split": "`(',' + e + ',').contains(',' + x + ',')` for `x in e.split(',')`, `e == 'a' || e.startsWith('a/')` for a first part",
     "join": "an item, such as `l[0]`",
     "format": "`+`, with `string(e)` for an int or a bool",
     "substring": "startsWith or endsWith",
@@ -155,6 +155,6 @@ def depth_told(_: Found, __: str) -> tuple[str, str]:
 
 
 OF_CAUSES = {
-    "P1": syntax_told, "P4": syntax_told, "W1": bytes_told, "W2": number_told, "W3": map_told, "W4": optional_told, "W5": name_told, "W6": entry_told,
-    "W10": depth_told,
+    "P1": syntax_told, "P4": syntax_told,
+    "W1": bytes_told, "W2": number_told, "W3": map_told, "W4": optional_told, "W5": name_told, "W6": entry_told, "W10": depth_told,
 }

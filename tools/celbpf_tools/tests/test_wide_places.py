@@ -126,7 +126,7 @@ class Words(unittest.TestCase):
         for text, cause, name, due in [
             ("a.split(',')", "W5", "split",
              ("`split` is not supported yet",
-              "`(',' + e + ',').contains(',' + x + ',')` for `x in e.split(',')`, `e.startsWith('a/')` for a first part")),
+              "`(',' + e + ',').contains(',' + x + ',')` for `x in e.split(',')`, `e == 'a' || e.startsWith('a/')` for a first part")),
             ("lists.range(3)", "W5", "range", ("`lists.range` is not supported yet", "the list itself, as `[0, 1, 2]`")),
             ("cel.bind(x, 1, x)", "W5", "bind", ("no API server up to 1.36 has `cel.bind`", "a variable of the policy")),
             ("authorizer.path('/')", "W5", "path", ("the decisions of the authorizer are not known here", "")),
