@@ -56,18 +56,18 @@ def run(given: argparse.Namespace) -> int:
     inputs = Inputs(keeps_texts=True)
     things = inputs.things(given.policies)
     policies = [thing for thing in things if POLICY in (thing.kind, misspelt(thing))]
-    others = [thing for thing in things if is_of(thing, BINDING) or misspelt(thing) not in (None, POLICY)]
+    bindings = [thing for thing in things if is_of(thing, BINDING) or misspelt(thing) == BINDING]
     marks = {name: Marks(text) for name, text in inputs.texts.items()}
     found: list[Fault] = []
     with tempfile.TemporaryDirectory() as folder:
         shown = asked(given, folder) if policies else None
-        for thing in (*policies, *others):
+        for thing in (*policies, *bindings):
             found += sorted(faults_of(thing, marks.get(thing.place.file), shown), key=place_of)
     if not policies and not found and not inputs.troubles:
         raise Stop(f"no {POLICY} is among the inputs", REFUSED)
     refused = {id(fault.policy) for fault in found}
-    of_policies, of_others = (sum(id(thing) in refused for thing in part) for part in (policies, others))
-    summed = summary(len(policies), of_policies, of_others, len(inputs.troubles))
+    of_policies, of_bindings = (sum(id(thing) in refused for thing in part) for part in (policies, bindings))
+    summed = summary(len(policies), of_policies, of_bindings, len(inputs.troubles))
     for name, file in given.output or [("table", "")]:
         if not file:
             SHOWN[name](found, inputs.troubles, summed, sys.stdout)
@@ -78,7 +78,7 @@ def run(given: argparse.Namespace) -> int:
 
 
 def faults_of(thing: Thing, marks: Any, shown: Optional[Callable[[Thing, Any], Iterator[Fault]]]) -> Iterator[Fault]:
-    """The refusals of a policy, a binding, or an object whose kind is misspelt."""
+    """The refusals of a policy or a binding."""
     if meant := misspelt(thing):
         yield kind_fault(thing, meant, marks)
         return
