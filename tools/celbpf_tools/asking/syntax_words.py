@@ -45,7 +45,8 @@ def of_token(text: str, at: int) -> tuple[str, str]:
     if last and last[1] in ("not", "if") and here:
         return f"`{last[1]}` is no operator here", WORDS[last[1]]
     if before.endswith(".?") and here[:1] in ("'", '"'):
-        return "a name follows `.?`", f"`[?{here.split(here[0])[1].join((here[0], here[0]))}]`"
+        quote = here[0]
+        return "a name follows `.?`", f"`[?{quote}{here.split(quote)[1]}{quote}]`"
     if here.startswith(">") and before.endswith("<"):
         return "`<>` is no operator here", "`!=`"
     opened = open_brackets(before)

@@ -15,9 +15,12 @@ REGISTER = re.compile(r"r(?:10|[0-9])$")
 VALUE = re.compile(r"v (?:0|[1-9][0-9]*)$")
 SHOWS = re.compile(r"(?:m 0x[0-9a-f]{1,16} [1-9][0-9]{0,2}|[rflw])$")
 REFUSED = ("? what", "? range", "? memory")
-# what moves in a session of a terminal, and what the console takes
+# the lines of a session that move, which the console does not take, and what it takes
 MOVES = re.compile(r"(?:s|rs|c|rc|g|b|db|q|go|step|next|break|continue|help)(?: .*)?$")
-TAKES = "the console takes registers (r0), `v N`, `m 0xADDRESS LENGTH`, `r`, `f`, `l`, `w`, and expressions of CEL; the editor's buttons move"
+TAKES = (
+    "the console takes registers (r0), `v N`, `m 0xADDRESS LENGTH`, `r`, `f`, `l`, `w`, and expressions of CEL; "
+    "the editor's buttons move"
+)
 
 
 def meaning(refusal: str) -> str:

@@ -23,10 +23,11 @@ from .parts import Parts, parts_of, texts_of
 # what a step of an editor goes by: a part of the policy, a sub-expression, or an instruction
 PART, PIECE, INSTRUCTION = "part", "expression", "instruction"
 DOCUMENTS = ("review", "namespace", "params")
-# the words of a launch, and those that clients add for themselves begin with two underscores or are of this list
+# the keys of a launch
 KEYS = (
     "image", "policy", *DOCUMENTS, "listing", "program", "gatekeeper", "cwd", "noDebug", "stopOnEntry", "stepBy", "profile", "translated",
 )
+# what clients add for themselves, beside keys that begin with two underscores
 OF_CLIENTS = ("name", "type", "request", "preLaunchTask", "postDebugTask", "presentation", "internalConsoleOptions", "debugServer")
 IMAGE = "launched.img"
 

@@ -163,7 +163,8 @@ class Setting:
         wishes: list[dict[str, Any]] = []
         for one in given.parts("breakpoints"):
             try:
-                wishes.append({"slot": number_of(one.needed_text("instructionReference"), "instructionReference") + one.number("offset", 0)})
+                named = one.needed_text("instructionReference")
+                wishes.append({"slot": number_of(named, "instructionReference") + one.number("offset", 0)})
             except BadRequest as why:
                 wishes.append({"why": str(why)})
         return self.asked((INSTRUCTION, ""), wishes)

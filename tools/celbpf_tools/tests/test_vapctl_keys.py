@@ -44,7 +44,10 @@ class Left(unittest.TestCase):
 
     def test_nothing_goes(self) -> None:
         policy: dict[str, Any] = {"spec": {"validations": [{}]}}
-        for refusal, key, value in [("K2", "spec", {}), ("K3", "spec", {}), ("K3", "spec.validations", []), ("K3", "", None),
-                                    ("K3", "spec.validations[0]", "expression is missing"), ("K3", "spec.validations[3].a", 1)]:
+        rows: list[tuple[str, str, Any]] = [
+            ("K2", "spec", {}), ("K3", "spec", {}), ("K3", "spec.validations", []), ("K3", "", None),
+            ("K3", "spec.validations[0]", "expression is missing"), ("K3", "spec.validations[3].a", 1),
+        ]
+        for refusal, key, value in rows:
             with self.subTest(refusal, key=key):
                 self.assertIsNone(without_key(policy, refusal, Refused("", key=key, value=value)))

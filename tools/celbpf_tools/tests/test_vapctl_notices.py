@@ -13,7 +13,7 @@ class Notices(unittest.TestCase):
     def test_lines(self) -> None:
         pods = {"resourceRules": [{"resources": ["pods"]}]}
         of_pods, of_jobs = ({"resource": {"resource": name}, "userInfo": {}} for name in ("pods", "jobs"))
-        for spec, request, has_params, wanted in [
+        rows: list[tuple[dict[str, Any], dict[str, Any], bool, list[str]]] = [
             ({}, {}, False, []), ({"matchConstraints": pods}, of_pods, False, []),
             ({"matchConstraints": pods}, of_jobs, False, ["its matchConstraints have no rule for jobs"]),
             ({"matchConstraints": pods}, {}, False, []),
@@ -21,7 +21,8 @@ class Notices(unittest.TestCase):
             ({"paramKind": {"kind": "ConfigMap"}}, of_pods, True, []),
             ({"variables": [{"name": "u", "expression": "request.userInfo"}]}, of_pods, False, []),
             ({"variables": [{"name": "u", "expression": "request.userInfo"}]}, {}, False, ["the policy reads request.userInfo"]),
-        ]:
+        ]
+        for spec, request, has_params, wanted in rows:
             with self.subTest(spec=spec, request=request):
                 self.assertEqual(self.told(spec, request, has_params), wanted)
 

@@ -36,10 +36,6 @@ def type_of(value: Any) -> str:
     return words.get(type(value), "another value")
 
 
-def is_of(value: Any, wanted: str) -> bool:
-    return type_of(value) == wanted
-
-
 def shown(value: Any) -> str:
     """A value in a message: a short text or number as it is, else its type."""
     if isinstance(value, (str, bool, int, float)) and len(str(value)) <= 40:
@@ -66,7 +62,7 @@ def cause(key: str, value: Any) -> str:
         near = difflib.get_close_matches(name, list(known), 1)
         meant = f"; there is `{near[0]}`" if near else f"; there are {', '.join(known)}"
         return f"no such key{meant}"
-    if not is_of(value, known[name]):
+    if type_of(value) != known[name]:
         return f"it is {type_of(value)}, and not {known[name]}"
     if name in VALUES:
         return f"it is {shown(value)}; there are {', '.join(VALUES[name])}" if value not in VALUES[name] else ""

@@ -118,7 +118,7 @@ def without(policy: dict[str, Any], part: policies.Part) -> Any:
 def without_key(policy: Any, refusal: str, found: Refused) -> Any:
     """A policy without a key that K3 refuses, so that what else is refused is shown; `None` if there is no such policy."""
     path = path_of_key(found.key) if refusal.split()[0] == "K3" and found.value not in MISSING else ()
-    if len(path) < 1 or path[-1] in ("spec", "validations"):
+    if not path or path[-1] in ("spec", "validations"):
         return None
     made = copy.deepcopy(policy)
     holder = made
