@@ -192,7 +192,9 @@ def launched(order: Order) -> Launched:
         return made
     except NotAnswered as why:
         reason = f"{order.title}: {words_of_refusal(why.line)}"
-    except (BadRequest, Ended, Unreadable) as why:
+    except Ended as why:
+        reason = words_of_refusal(str(why).removeprefix("celbpf: "))
+    except (BadRequest, Unreadable) as why:
         reason = str(why)
     except (Stop, OSError, subprocess.SubprocessError) as why:
         reason = f"the program cannot be run: {why}"

@@ -28,6 +28,8 @@ OTHERS = {
     "N3": "the namespace or the params are refused: they are no object, or have a number that is no 64-bit int",
     "N4": "the program takes more steps than are allowed",
     "N5": "the program takes more memory than is allowed",
+    "L1": "the image is refused: it has fewer than 16 bytes",
+    "L2": "the image is refused: it does not begin as an image",
     "L3": "the image is refused: it has no slots, or more than 65,536",
     "L4": "the image is refused: it has more than 1,048,576 bytes of constants",
     "L5": "the image is refused: its file is longer or shorter than its head tells",
