@@ -16,7 +16,7 @@ PAGE, CLUSTERS = "docs/LANGUAGE.md", "docs/CLUSTERS.md"
 EXAMPLE = re.compile(r"(`+) ?(.+?) ?\1(?!`) is (?:`([^`]+)`|(the error|true|false|null|-?[0-9]+)|refused \(([PMYWKG][0-9])\))")
 UID = "u1"
 # names that stand for values in the forms of the page
-FREE = ("m", "l", "a", "b", "e", "d", "k", "p", "o")
+FREE = ("m", "l", "a", "b", "e", "d", "k", "p", "o", "x")
 FORM = re.compile(r"[^`]*[\[({][^`]*")
 
 
