@@ -3,6 +3,7 @@ pub mod Names
 pub mod Ranks
 pub mod Prefixed
 pub mod Steps
+pub mod Parts
 pub mod Lists
 pub mod Sound
 pub mod Loose

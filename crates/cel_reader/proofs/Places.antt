@@ -1,7 +1,8 @@
 -- The error positions of the reader's runs.
 use Rattle.cel_reader.proofs.Prelude.{◌≡◌, ℕ, suc, ◌+◌, ◌-◌, ◌<◌, List, [], ◌∷◌, ◌++◌, pos, map, length, take, Err, true, false, refl, sym, ◌∙◌, ap, subst, arith, append_assoc, length-append, drop-map, take-append_seam, take-append-add, Word, token_view, int, CodeToken, UnexpectedToken, Tree, words, opens, Expression, One, Derives, Misfit, Deep, Got, Refused, Row, go, StepReads, place_left, refused_at, place_at, IsViablePrefix, UnexpectedAt, DeepAt, StandsAt, ParseErrorIsAt, Refusal, open_limit}
 use Rattle.cel_reader.specs.declared.refusal.Refusal.TheVariants as refusal
-use Rattle.cel_reader.proofs.Steps.{Fails, words_length}
+use Rattle.cel_reader.proofs.Steps.{words_length}
+use Rattle.cel_reader.specs.Reading.{Fails}
 use Rattle.cel_reader.proofs.Alike.{Alike, same, down}
 use Rattle.cel_reader.proofs.Local.{local}
 use Rattle.cel_reader.proofs.Loose.{loosely, carried}

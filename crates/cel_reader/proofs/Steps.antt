@@ -1,5 +1,6 @@
 -- Steps over the results of calls.
-use Rattle.cel_reader.proofs.Prelude.{Bool, true, false, ◌≡◌, ◌≢◌, ℕ, suc, ◌-◌, List, [], ◌∷◌, ◌++◌, map, length, Err, Result, sym, ◌∙◌, ap, arith, map-append, length-map, ReadOutcome, Refused, Cause, Misfit, Deep, ReturnsOutcome, Kind, Row, Plan, look, enter, inside, operand, PlanRuns, goes, found, missing, enters, opened, full, StepReads, Unary, unary_mark, UnaryOperator, Mark, err_from_is_err_and, if◌then◌else◌, IsErrAnd, Word, Token, token_view, mark, CodeToken, words, Look, FoundBy, Is, this_mark, opens_mark, Refusal}
+use Rattle.cel_reader.proofs.Prelude.{Bool, true, false, ◌≡◌, ◌≢◌, ℕ, suc, ◌-◌, List, [], ◌∷◌, ◌++◌, map, length, Result, sym, ◌∙◌, ap, arith, map-append, length-map, ReadOutcome, Refused, Cause, Deep, ReturnsOutcome, Kind, Row, Plan, look, enter, inside, operand, PlanRuns, goes, found, missing, enters, opened, full, StepReads, Unary, unary_mark, UnaryOperator, Mark, err_from_is_err_and, if◌then◌else◌, IsErrAnd, Word, Token, token_view, mark, CodeToken, words, Look, FoundBy, Is, this_mark, opens_mark, Refusal}
+use Rattle.cel_reader.specs.Reading.{Fails}
 use Rattle.cel_reader.specs.declared.operator.UnaryOperator.TheVariants as unary
 
 pub has_room : (room : ℕ) → room ≢ 0 → room ≡ suc (room - 1)
@@ -48,10 +49,6 @@ pub either : (b : Bool) (source : List ℕ) (xs ys : List CodeToken) (P : List W
     → (rest : List Word) × (length (if b then xs else ys) ≡ length rest) × P rest
 either true source xs ys P p = (words source xs, words_length source xs, p)
 either false source xs ys P p = (words source ys, words_length source ys, p)
-
--- the outcome that an error means
-abbrev pub Fails : Refusal → (ReadOutcome → Type 0) → Type 0
-Fails e P = ReturnsOutcome {X = Unit {0}} (λ u. Refused (Misfit [])) (Err e) P
 
 -- the outcome that an error means, from the code's finding
 pub refused : {X : Type 0} (token_view : X → ReadOutcome) (P Q : ReadOutcome → Type 0) (e : Refusal) (r : Result X Refusal) → IsErrAnd r (λ f. f ≡ e) → Fails e P

@@ -3,7 +3,7 @@ use Rattle.cel_reader.proofs.Prelude.{◌≡◌, ◌≢◌, ℕ, List, [], ◌�
 use Rattle.cel_tokens.specs.Lexis as tokens
 use Rattle.cel_reader.proofs.FirstWords.{first}
 use Rattle.cel_reader.specs.declared.refusal.Refusal.TheVariants as refusal
-use Rattle.cel_reader.proofs.Steps.{Fails}
+use Rattle.cel_reader.specs.Reading.{Fails}
 use Rattle.cel_reader.proofs.Theorems.{whole_sound, whole_unique, misfit_never, rest_never, deep_never, deep_openings}
 
 -- the whole text is read

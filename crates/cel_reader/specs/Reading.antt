@@ -1,5 +1,5 @@
 -- The steps of the reader, and their outcomes.
-use Rattle.std.specs.Prelude.{◌≡◌, ℕ, zero, suc, List, [], ◌∷◌, ◌++◌, length, Bool, true, false, Result, Ok, Err}
+use Rattle.std.specs.Prelude.{◌≡◌, ℕ, zero, suc, List, [], ◌∷◌, ◌++◌, length, Bool, true, false, Option, None, Some, Result, Ok, Err}
 use Rattle.std.proofs.Common.{refl}
 use Rattle.cel_tokens.specs.Token.{Word, mark}
 use Rattle.cel_tokens.specs.declared.mark.Mark.{Mark, TheVariants.CloseBracket, TheVariants.OpenBrace}
@@ -82,6 +82,23 @@ operand op = call (Row (Prefixed op)) (λ a. done (tree.unary op a))
 abbrev pub maybe_call : Tree → (List Tree → Tree) → Plan false whole
 maybe_call a of = enter OpenParen refl (call (Listed Call) (λ items. done (of items))) (done a)
 
+-- a name alone, or with arguments
+abbrev pub with_arguments : Tree → (List Tree → Tree) → Option (List Tree) → Tree
+with_arguments a of None = a
+with_arguments a of (Some items) = of items
+
+-- a step whose phrase this mark follows
+abbrev pub before : {k : Kind} → Step false whole → Mark → (Tree → Plan false k) → Plan false k
+before s m f = call s (λ a. look (at m) (λ x. f a) misfit)
+
+-- a phrase of the row, a colon and an expression
+abbrev pub pair : {k : Kind} → Class → (Tree → Tree → Plan false k) → Plan false k
+pair first f = before (Row first) Colon (λ a. call (Row Expression) (λ b. f a b))
+
+-- the branches of a conditional, after its question mark
+abbrev pub branches : Tree → Plan true whole
+branches a = inside (pair (Infix Or) (λ b c. done (tree.ternary a b c)))
+
 -- a list after its opening bracket: it is empty or continues with the first item; in a
 -- call a comma there is refused by the item
 abbrev pub listed : {k : Kind} → Closing → Of k → Step false k → Plan true k
@@ -97,9 +114,7 @@ behind c all next =
 
 -- what the reader does in each state
 abbrev pub plan : {b : Bool} {k : Kind} → Step b k → Plan b k
-plan (Row Expression) =
-    call (Row (Infix Or)) (λ a. enter Question refl (inside (call (Row (Infix Or)) (λ b. look (at Colon) (λ x. call (Row Expression) (λ c.
-    done (tree.ternary a b c))) misfit))) (done a))
+plan (Row Expression) = call (Row (Infix Or)) (λ a. enter Question refl (branches a) (done a))
 plan (Row (Infix l)) = call (Row (below l)) (λ a. go (Tail l a))
 plan (Tail l a) = look (operator l) (λ op. call (Row (below l)) (λ b. go (Tail l (tree.binary op a b)))) (done a)
 plan (Row Unary) = look (at Not) (λ x. operand unary.Not) (look (at Minus) (λ x. operand unary.Negate) (go (Row Member)))
@@ -116,13 +131,12 @@ plan (Row Primary) =
     (look constant (λ v. done (tree.literal v))
     (look (named is_identifier) (λ n. maybe_call (tree.name n) (λ items. tree.call n (trees items))) misfit))))
 plan (Row _) = never
-plan (Enclosed m) = inside (call (Row Expression) (λ a. look (at m) (λ x. done a) misfit))
+plan (Enclosed m) = inside (before (Row Expression) m (λ a. done a))
 plan (Listed c) = listed c [] (Item c [])
 plan (Item c items) = call (Row Expression) (λ a. go (Behind c (items ++ a ∷ [])))
 plan (Behind c items) = behind c items (Item c items)
 plan Mapped = listed Map [] (Entry [])
-plan (Entry pairs) =
-    call (Row Expression) (λ a. look (at Colon) (λ x. call (Row Expression) (λ b. go (BehindEntry (pairs ++ (a, b) ∷ [])))) misfit)
+plan (Entry pairs) = pair Expression (λ a b. go (BehindEntry (pairs ++ (a, b) ∷ [])))
 plan (BehindEntry pairs) = behind Map pairs (Entry pairs)
 
 -- with this room, before these words, the plan has this outcome
@@ -163,3 +177,18 @@ ReturnsOutcome seen (Ok x) P = P (seen x)
 ReturnsOutcome seen (Err (refusal.Misfit left)) P = (rest : List Word) × (left ≡ length rest) × P (Refused (Misfit rest))
 ReturnsOutcome seen (Err (refusal.Deep left)) P = (rest : List Word) × (left ≡ suc (length rest)) × P (Refused (Deep rest))
 ReturnsOutcome seen (Err refusal.Memory) P = Unit {0}
+
+-- an error's outcome is one of this reading
+abbrev pub Fails : Refusal → (ReadOutcome → Type 0) → Type 0
+Fails e P = ReturnsOutcome {X = Unit {0}} (λ u. Refused (Misfit [])) (Err e) P
+
+-- what was read leads to each outcome of this reading that follows from it; an error's outcome is one of the reading
+abbrev pub Leads : {X : Type 0} → Result X Refusal → (X → ReadOutcome → Type 0) → (ReadOutcome → Type 0) → Type 0
+Leads (Ok x) After P = (o : ReadOutcome) → After x o → P o
+Leads (Err e) After P = Fails e P
+
+-- the second result is the first one's error, or built from what was read unless an allocation failed
+abbrev pub IsBuiltFrom : {X Y : Type 0} → Result X Refusal → Result Y Refusal → (X → Y → Type 0) → Type 0
+IsBuiltFrom (Ok x) (Ok y) Built = Built x y
+IsBuiltFrom (Ok x) (Err e) Built = e ≡ refusal.Memory
+IsBuiltFrom (Err e) r Built = r ≡ Err e

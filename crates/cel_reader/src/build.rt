@@ -11,6 +11,27 @@ use crate::literal::Literal;
 use crate::operator::{BinaryOperator, UnaryOperator};
 use std::alloc::{AllocError, Global};
 
+/// Both in boxes.
+fn boxed<T: Drop>(alloc: Global, first: T, second: T) -> Result<(Box<T>, Box<T>), AllocError>
+    ensures { IfOk result (λ b. (b.0.value ≡ first) × (b.1.value ≡ second)) }
+{
+    let first = Box::new(alloc, first)?;
+    Ok((first, Box::new(alloc, second)?))
+}
+
+/// All three in boxes.
+fn all_boxed<T: Drop>(
+    alloc: Global,
+    first: T,
+    second: T,
+    third: T,
+) -> Result<(Box<T>, Box<T>, Box<T>), AllocError>
+    ensures { IfOk result (λ b. (b.0.value ≡ first) × (b.1.value ≡ second) × (b.2.value ≡ third)) }
+{
+    let (first, second) = boxed(alloc, first, second)?;
+    Ok((first, second, Box::new(alloc, third)?))
+}
+
 /// A literal.
 pub fn literal(literal: Literal) -> Expr
     ensures { view result ≡ node.literal (literal_view literal) }
@@ -57,7 +78,8 @@ pub fn select(alloc: Global, of: Expr, field: String) -> Result<Expr, AllocError
 pub fn index(alloc: Global, of: Expr, at: Expr) -> Result<Expr, AllocError>
     ensures { IfOk result (λ e. view e ≡ node.index (view of) (view at)) }
 {
-    Ok(Expr::Index(Box::new(alloc, of)?, Box::new(alloc, at)?))
+    let (of, at) = boxed(alloc, of, at)?;
+    Ok(Expr::Index(of, at))
 }
 
 /// A call of a method.
@@ -104,16 +126,14 @@ pub fn binary(
 ) -> Result<Expr, AllocError>
     ensures { IfOk result (λ e. view e ≡ node.binary operator (view left) (view right)) }
 {
-    Ok(Expr::Binary(operator, Box::new(alloc, left)?, Box::new(alloc, right)?))
+    let (left, right) = boxed(alloc, left, right)?;
+    Ok(Expr::Binary(operator, left, right))
 }
 
 /// A conditional.
 pub fn ternary(alloc: Global, condition: Expr, yes: Expr, no: Expr) -> Result<Expr, AllocError>
     ensures { IfOk result (λ e. view e ≡ node.ternary (view condition) (view yes) (view no)) }
 {
-    Ok(Expr::Ternary(
-        Box::new(alloc, condition)?,
-        Box::new(alloc, yes)?,
-        Box::new(alloc, no)?,
-    ))
+    let (condition, yes, no) = all_boxed(alloc, condition, yes, no)?;
+    Ok(Expr::Ternary(condition, yes, no))
 }

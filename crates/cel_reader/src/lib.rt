@@ -11,6 +11,7 @@ mod literal;
 mod look;
 mod name;
 mod operator;
+mod phrase;
 mod place;
 mod reader;
 mod refusal;

@@ -1,12 +1,13 @@
 //! The reader: a function for each row of the grammar.
 
-ghost use Rattle.std.specs.Prelude.{◌≡◌, ◌<◌, length, IfOk};
+ghost use Rattle.std.specs.Prelude.{◌≡◌, ◌<◌, ◌≤◌, ◌∷◌, [], ◌++◌, List, length, IfOk, option_map, string_bytes};
 ghost use Rattle.std.specs.Prelude as list;
-ghost use Rattle.cel_reader.specs.Tree.{view, entry_view};
+ghost use Rattle.cel_reader.specs.Tree as node;
+ghost use Rattle.cel_reader.specs.Tree.{Tree, view, entry_view};
 ghost use Rattle.cel_reader.specs.Grammar as row;
 ghost use Rattle.cel_reader.specs.Grammar.{One, Many, Keyed, below};
 ghost use Rattle.cel_reader.specs.Look.{words};
-ghost use Rattle.cel_reader.specs.Reading.{ReturnsOutcome, StepReads, Got, Row, Selection, Enclosed, Listed, Mapped};
+ghost use Rattle.cel_reader.specs.Reading.{ReturnsOutcome, Leads, StepReads, PlanRuns, Got, Row, Selection, Enclosed, Listed, Mapped, Entry, BehindEntry, branches, maybe_call, with_arguments};
 
 use crate::build;
 use crate::closing::Closing;
@@ -16,12 +17,10 @@ use crate::look::{
     after, end_at, identifier_at, literal_at, operator_at, prefix_at, prefixes, selector_at,
 };
 use crate::name::name_of;
-use crate::refusal::{Refusal, lone_comma, misfit, too_deep};
+use crate::phrase::{self, Named, Read};
+use crate::refusal::{lone_comma, misfit, too_deep};
 use cel_tokens::{Mark, Token};
 use std::alloc::Global;
-
-/// What was read, and the tokens after it.
-type Read<'a, T = Expr> = Result<(T, &'a [Token]), Refusal>;
 
 /// The expression that is first, with `room` more brackets and conditionals to open, and the tokens after it.
 #[cycle(reader)]
@@ -33,15 +32,28 @@ pub fn expression<'a>(alloc: Global, text: &'a [u8], tokens: &'a [Token], room: 
     let Some(yes_tokens) = after(text, rest, Mark::Question) else {
         return Ok((condition, rest));
     };
+    let branches = branches(alloc, text, yes_tokens, room);
+    phrase::ternary(alloc, condition, branches)
+}
+
+/// The branches of a conditional, after its question mark.
+#[cycle(reader)]
+fn branches<'a>(
+    alloc: Global,
+    text: &'a [u8],
+    yes_tokens: &'a [Token],
+    room: u8,
+) -> Read<'a, (Expr, Expr)>
+    ensures reads { (a : Tree) → ReturnsOutcome (λ x. Got (One (node.ternary a (view x.0.0) (view x.0.1))) (words text.now x.1.now)) result (PlanRuns (branches a) room (words text.now yes_tokens.now)) }
+    ensures shorter { IfOk result (λ x. length x.1.now < length yes_tokens.now) }
+{
     if room == 0 {
         return Err(too_deep(yes_tokens));
     }
-    let (yes, yes_end) = infix(alloc, text, yes_tokens, Level::Or, room - 1)?;
-    let Some(no_tokens) = after(text, yes_end, Mark::Colon) else {
-        return Err(misfit(yes_end));
-    };
-    let (no, end) = expression(alloc, text, no_tokens, room - 1)?;
-    Ok((build::ternary(alloc, condition, yes, no)?, end))
+    let yes = infix(alloc, text, yes_tokens, Level::Or, room - 1);
+    let (yes, no_tokens) = phrase::up_to(text, Mark::Colon, yes)?;
+    let no = expression(alloc, text, no_tokens, room - 1);
+    phrase::pair(yes, no)
 }
 
 /// An operand of the level and its operators, from the left.
@@ -52,8 +64,9 @@ fn infix<'a>(alloc: Global, text: &'a [u8], tokens: &'a [Token], level: Level, r
 {
     let (mut left, mut rest) = operand(alloc, text, tokens, level, room)?;
     while let Some((operator, right_tokens)) = operator_at(text, rest, level) {
-        let (right, end) = operand(alloc, text, right_tokens, level, room)?;
-        left = build::binary(alloc, operator, left, right)?;
+        let right = operand(alloc, text, right_tokens, level, room);
+        let (joined, end) = phrase::binary(alloc, operator, left, right)?;
+        left = joined;
         rest = end;
     }
     Ok((left, rest))
@@ -90,9 +103,8 @@ fn unary<'a>(alloc: Global, text: &'a [u8], tokens: &'a [Token], room: u8) -> Re
         return member(alloc, text, tokens, room);
     };
     let (count, rest) = prefixes(text, behind, operator);
-    let (operand, end) = member(alloc, text, rest, room)?;
-    let inner = build::prefixed(alloc, operator, count, operand)?;
-    Ok((build::unary(alloc, operator, inner)?, end))
+    let operand = member(alloc, text, rest, room);
+    phrase::unary(alloc, operator, count, operand)
 }
 
 /// A primary with its selections, calls and indexes.
@@ -104,12 +116,14 @@ fn member<'a>(alloc: Global, text: &'a [u8], tokens: &'a [Token], room: u8) -> R
     let (mut tree, mut rest) = primary(alloc, text, tokens, room)?;
     loop {
         if let Some(behind) = after(text, rest, Mark::Dot) {
-            let (selected, end) = selection(alloc, text, behind, tree, room)?;
+            let named = selection(alloc, text, behind, room);
+            let (selected, end) = phrase::selection(alloc, tree, named)?;
             tree = selected;
             rest = end;
         } else if let Some(behind) = after(text, rest, Mark::OpenBracket) {
-            let (at, end) = enclosed(alloc, text, behind, Mark::CloseBracket, room)?;
-            tree = build::index(alloc, tree, at)?;
+            let at = enclosed(alloc, text, behind, Mark::CloseBracket, room);
+            let (indexed, end) = phrase::index(alloc, tree, at)?;
+            tree = indexed;
             rest = end;
         } else {
             return Ok((tree, rest));
@@ -117,21 +131,18 @@ fn member<'a>(alloc: Global, text: &'a [u8], tokens: &'a [Token], room: u8) -> R
     }
 }
 
-/// The field or the method call after a dot.
+/// The name after a dot, and its arguments if it is called.
 #[cycle(reader)]
-fn selection<'a>(alloc: Global, text: &'a [u8], tokens: &'a [Token], of: Expr, room: u8) -> Read<'a>
-    ensures reads { ReturnsOutcome (λ x. Got (One (view x.0)) (words text.now x.1.now)) result (StepReads (Selection (view of)) room (words text.now tokens.now)) }
+fn selection<'a>(alloc: Global, text: &'a [u8], tokens: &'a [Token], room: u8) -> Read<'a, Named>
+    ensures reads { (a : Tree) → ReturnsOutcome (λ x. Got (One (with_arguments (node.select a (string_bytes x.0.0)) (λ items. node.method a (string_bytes x.0.0) (node.trees items)) (option_map (λ v. list.map view v.items) x.0.1))) (words text.now x.1.now)) result (StepReads (Selection a) room (words text.now tokens.now)) }
     ensures shorter { IfOk result (λ x. length x.1.now < length tokens.now) }
 {
     let Some((name, rest)) = selector_at(text, tokens) else {
         return Err(misfit(tokens));
     };
     let name = name_of(alloc, name)?;
-    let Some(behind) = after(text, rest, Mark::OpenParen) else {
-        return Ok((build::select(alloc, of, name)?, rest));
-    };
-    let (arguments, end) = items(alloc, text, behind, Closing::Call, room)?;
-    Ok((build::method(alloc, of, name, arguments)?, end))
+    let arguments = maybe_arguments(alloc, text, rest, room);
+    phrase::pair(name, arguments)
 }
 
 /// A name, a call, a literal or an expression in brackets.
@@ -144,12 +155,12 @@ fn primary<'a>(alloc: Global, text: &'a [u8], tokens: &'a [Token], room: u8) -> 
         return enclosed(alloc, text, inside, Mark::CloseParen, room);
     }
     if let Some(inside) = after(text, tokens, Mark::OpenBracket) {
-        let (list, end) = items(alloc, text, inside, Closing::List, room)?;
-        return Ok((build::list(list), end));
+        let items = items(alloc, text, inside, Closing::List, room);
+        return phrase::list(items);
     }
     if let Some(inside) = after(text, tokens, Mark::OpenBrace) {
-        let (map, end) = entries(alloc, text, inside, room)?;
-        return Ok((build::map(map), end));
+        let entries = entries(alloc, text, inside, room);
+        return phrase::map(entries);
     }
     if let Some((literal, rest)) = literal_at(alloc, text, tokens)? {
         return Ok((build::literal(literal), rest));
@@ -158,11 +169,26 @@ fn primary<'a>(alloc: Global, text: &'a [u8], tokens: &'a [Token], room: u8) -> 
         return Err(misfit(tokens));
     };
     let name = name_of(alloc, name)?;
-    let Some(behind) = after(text, rest, Mark::OpenParen) else {
-        return Ok((build::name(name), rest));
+    let arguments = maybe_arguments(alloc, text, rest, room);
+    phrase::call(name, arguments)
+}
+
+/// The arguments of a call, if a parenthesis follows.
+#[cycle(reader)]
+fn maybe_arguments<'a>(
+    alloc: Global,
+    text: &'a [u8],
+    tokens: &'a [Token],
+    room: u8,
+) -> Read<'a, Option<Vec<Expr>>>
+    ensures reads { (a : Tree) (of : List Tree → Tree) → ReturnsOutcome (λ x. Got (One (with_arguments a of (option_map (λ v. list.map view v.items) x.0))) (words text.now x.1.now)) result (PlanRuns (maybe_call a of) room (words text.now tokens.now)) }
+    ensures shorter { IfOk result (λ x. length x.1.now ≤ length tokens.now) }
+{
+    let Some(inside) = after(text, tokens, Mark::OpenParen) else {
+        return Ok((None, tokens));
     };
-    let (arguments, end) = items(alloc, text, behind, Closing::Call, room)?;
-    Ok((build::call(name, arguments), end))
+    let (arguments, end) = items(alloc, text, inside, Closing::Call, room)?;
+    Ok((Some(arguments), end))
 }
 
 /// The expression after an opening bracket, up to its closing one.
@@ -180,11 +206,8 @@ fn enclosed<'a>(
     if room == 0 {
         return Err(too_deep(tokens));
     }
-    let (inner, inner_end) = expression(alloc, text, tokens, room - 1)?;
-    let Some(end) = after(text, inner_end, close) else {
-        return Err(misfit(inner_end));
-    };
-    Ok((inner, end))
+    let inner = expression(alloc, text, tokens, room - 1);
+    phrase::up_to(text, close, inner)
 }
 
 /// The expressions after a bracket, up to the list's end.
@@ -202,23 +225,24 @@ fn items<'a>(
     if room == 0 {
         return Err(too_deep(tokens));
     }
-    let mut items = Vec::new(alloc);
     if let Some(end) = end_at(text, tokens, closing) {
-        return Ok((items, end));
+        return Ok((Vec::new(alloc), end));
     }
     if let Some(behind) = after(text, tokens, Mark::Comma) {
         return Err(lone_comma(tokens, behind, closing));
     }
+    let mut items = Vec::new(alloc);
     let mut rest = tokens;
     loop {
-        let (item, item_end) = expression(alloc, text, rest, room - 1)?;
-        items.push(item)?;
+        let item = expression(alloc, text, rest, room - 1);
+        let (grown, item_end) = phrase::pushed(items, item)?;
         if let Some(end) = end_at(text, item_end, closing) {
-            return Ok((items, end));
+            return Ok((grown, end));
         }
         let Some(behind) = after(text, item_end, Mark::Comma) else {
             return Err(misfit(item_end));
         };
+        items = grown;
         rest = behind;
     }
 }
@@ -237,27 +261,36 @@ fn entries<'a>(
     if room == 0 {
         return Err(too_deep(tokens));
     }
-    let mut entries = Vec::new(alloc);
     if let Some(end) = end_at(text, tokens, Closing::Map) {
-        return Ok((entries, end));
+        return Ok((Vec::new(alloc), end));
     }
     if let Some(behind) = after(text, tokens, Mark::Comma) {
         return Err(misfit(behind));
     }
+    let mut entries = Vec::new(alloc);
     let mut rest = tokens;
     loop {
-        let (key, key_end) = expression(alloc, text, rest, room - 1)?;
-        let Some(value_tokens) = after(text, key_end, Mark::Colon) else {
-            return Err(misfit(key_end));
-        };
-        let (value, value_end) = expression(alloc, text, value_tokens, room - 1)?;
-        entries.push((key, value))?;
-        if let Some(end) = end_at(text, value_end, Closing::Map) {
-            return Ok((entries, end));
+        let entry = entry(alloc, text, rest, room - 1);
+        let (grown, entry_end) = phrase::pushed(entries, entry)?;
+        if let Some(end) = end_at(text, entry_end, Closing::Map) {
+            return Ok((grown, end));
         }
-        let Some(behind) = after(text, value_end, Mark::Comma) else {
-            return Err(misfit(value_end));
+        let Some(behind) = after(text, entry_end, Mark::Comma) else {
+            return Err(misfit(entry_end));
         };
+        entries = grown;
         rest = behind;
     }
+}
+
+/// A key, a colon and a value.
+#[cycle(reader)]
+fn entry<'a>(alloc: Global, text: &'a [u8], tokens: &'a [Token], room: u8) -> Read<'a, (Expr, Expr)>
+    ensures reads { (pairs : List (Tree × Tree)) → Leads result (λ x o. StepReads (BehindEntry (pairs ++ entry_view x.0 ∷ [])) room (words text.now x.1.now) o) (StepReads (Entry pairs) room (words text.now tokens.now)) }
+    ensures shorter { IfOk result (λ x. length x.1.now < length tokens.now) }
+{
+    let key = expression(alloc, text, tokens, room);
+    let (key, value_tokens) = phrase::up_to(text, Mark::Colon, key)?;
+    let value = expression(alloc, text, value_tokens, room);
+    phrase::pair(key, value)
 }

@@ -7,13 +7,19 @@ abbrev pub decreases-enclosed : goal.decreases-enclosed
 decreases-enclosed l = 20 * length l.tokens.now + 17
 
 abbrev pub decreases-entries : goal.decreases-entries
-decreases-entries l = 20 * length l.tokens.now + 17
+decreases-entries l = 20 * length l.tokens.now + 18
+
+abbrev pub decreases-entry : goal.decreases-entry
+decreases-entry l = 20 * length l.tokens.now + 17
 
 abbrev pub decreases-items : goal.decreases-items
 decreases-items l = 20 * length l.tokens.now + 17
 
 abbrev pub decreases-expression : goal.decreases-expression
 decreases-expression l = 20 * length l.tokens.now + 16
+
+abbrev pub decreases-branches : goal.decreases-branches
+decreases-branches l = 20 * length l.yes_tokens.now + 16
 
 abbrev pub decreases-infix : goal.decreases-infix
 decreases-infix l = 20 * length l.tokens.now + (rank l.level + 1)
@@ -29,6 +35,9 @@ decreases-member l = 20 * length l.tokens.now + 4
 
 abbrev pub decreases-primary : goal.decreases-primary
 decreases-primary l = 20 * length l.tokens.now + 3
+
+abbrev pub decreases-maybe_arguments : goal.decreases-maybe_arguments
+decreases-maybe_arguments l = 20 * length l.tokens.now
 
 abbrev pub decreases-selection : goal.decreases-selection
 decreases-selection l = 20 * length l.tokens.now
@@ -51,20 +60,20 @@ invariant-member-loop-behind l = record {
 abbrev pub decreases-member-loop-behind : goal.decreases-member-loop-behind
 decreases-member-loop-behind l = length l.rest
 
-abbrev pub invariant-items-loop-items : goal.invariant-items-loop-items
-invariant-items-loop-items l = record {
+abbrev pub invariant-items-loop-grown : goal.invariant-items-loop-grown
+invariant-items-loop-grown l = record {
   goes : (o : ReadOutcome) → StepReads (Item l.closing (map view l.items.items)) (l.room - 1) (words l.text l.rest) o → StepReads (Listed l.closing) l.room (words l.text l.tokens) o;
   within : length l.rest ≤ length l.tokens;
 }
 
-abbrev pub decreases-items-loop-items : goal.decreases-items-loop-items
-decreases-items-loop-items l = length l.rest
+abbrev pub decreases-items-loop-grown : goal.decreases-items-loop-grown
+decreases-items-loop-grown l = length l.rest
 
-abbrev pub invariant-entries-loop-entries : goal.invariant-entries-loop-entries
-invariant-entries-loop-entries l = record {
+abbrev pub invariant-entries-loop-grown : goal.invariant-entries-loop-grown
+invariant-entries-loop-grown l = record {
   goes : (o : ReadOutcome) → StepReads (Entry (map entry_view l.entries.items)) (l.room - 1) (words l.text l.rest) o → StepReads Mapped l.room (words l.text l.tokens) o;
   within : length l.rest ≤ length l.tokens;
 }
 
-abbrev pub decreases-entries-loop-entries : goal.decreases-entries-loop-entries
-decreases-entries-loop-entries l = length l.rest
+abbrev pub decreases-entries-loop-grown : goal.decreases-entries-loop-grown
+decreases-entries-loop-grown l = length l.rest
