@@ -1,25 +1,15 @@
 """Quantities of objects of built-in kinds, as an API server stores them.
 
-A chart may write `cpu: 0.5`. An API server reads a quantity of a number as of a text, and stores its canonical form,
-here `500m`: no fraction, and the largest suffix (k8s.io/apimachinery/pkg/api/resource, `Quantity`).
+A chart may write `cpu: 0.5`. An API server reads a quantity of a number as of a text, here `500m`, and rounds those of
+lists of resources up to thousandths (k8s.io/kubernetes/pkg/apis/core/v1, `SetDefaults_ResourceList`).
 """
 
-import re
 import sys
-from decimal import ROUND_UP, Context, Decimal, localcontext
+from decimal import Decimal
 from typing import Any, Iterator, Union
 
-SUFFIXES = {-9: "n", -6: "u", -3: "m", 0: "", 3: "k", 6: "M", 9: "G", 12: "T", 15: "P", 18: "E"}
-DECIMAL = {suffix: place for place, suffix in SUFFIXES.items()}
-BINARY = ("", "Ki", "Mi", "Gi", "Ti", "Pi", "Ei")
-QUANTITY = re.compile(r"([+-]?(?:[0-9]+\.?[0-9]*|\.[0-9]+))(?:[eE]([+-]?[0-9]{1,3})|([numkMGTPE]|[KMGTPE]i))?", re.ASCII)
-# the most characters of a text that is read exactly
-MOST_DIGITS = 40
-# a quantity has no digits beyond these, and is no larger
-NANO = Decimal("1e-9")
-LARGEST = Decimal(2**63 - 1)
-# no sum or product of what is read has more digits
-EXACT = Context(prec=2_000)
+from .quantity_texts import stored
+
 CLAIM = ("resources.requests.*", "resources.limits.*")
 DIVISORS = ("downwardAPI.items[].resourceFieldRef.divisor", "projected.sources[].downwardAPI.items[].resourceFieldRef.divisor")
 CONTAINER = (*CLAIM, "env[].valueFrom.resourceFieldRef.divisor")
@@ -36,7 +26,7 @@ METRICS = (
     *(f"{kind}.target.value" for kind in ("resource", "containerResource", "pods", "object", "external")),
 )
 DEVICES = ("spec.devices[].capacity.*.value", "spec.devices[].basic.capacity.*.value")
-# by group and kind the paths of quantities; `*` is any key, `[]` any item
+# by group and kind the paths of quantities; `*` is any key, `[]` any item. A path that ends with `*` is a list of resources
 PATHS = {
     ("", "Pod"): tuple(f"spec.{path}" for path in POD),
     ("", "PodTemplate"): tuple(f"template.spec.{path}" for path in POD),
@@ -86,63 +76,19 @@ def text_of(value: Union[int, float]) -> str:
     return f"{digits}e{int(exponent):+d}"
 
 
-def bounded(number: Decimal) -> Decimal:
-    """A quantity as it is read: no larger than 2^63 - 1, and rounded up to billionths."""
-    return min(abs(number), LARGEST).copy_sign(number).quantize(NANO, rounding=ROUND_UP)
+def quantity_of(value: Union[int, float], is_resource: bool = False) -> str:
+    """The text that an API server stores of a number."""
+    return stored(text_of(value), is_resource)
 
 
-def decimal_text(number: Decimal, has_exponent: bool) -> str:
-    """The canonical text with a decimal suffix or an exponent."""
-    if number == 0:
-        return "0"
-    zeros = number.normalize().as_tuple().exponent
-    exponent = min(int(zeros) // 3 * 3, max(SUFFIXES))
-    digits = f"{number / (Decimal(10) ** exponent):.0f}"
-    if has_exponent:
-        return f"{digits}e{exponent}" if exponent else digits
-    return digits + SUFFIXES[exponent]
-
-
-def binary_text(number: Decimal) -> str:
-    """The canonical text with a binary suffix; one below 1,024, or with a fraction, has a decimal suffix."""
-    if abs(number) < 1024 or number % 1 != 0:
-        return decimal_text(number, False)
-    whole = int(number)
-    zeros = (whole & -whole).bit_length() - 1
-    power = min(zeros // 10, len(BINARY) - 1)
-    return f"{whole >> (10 * power)}{BINARY[power]}"
-
-
-def quantity_of(value: Union[int, float]) -> str:
-    """The canonical text of the quantity that an API server reads of a number."""
-    text = text_of(value)
-    with localcontext(EXACT):
-        return decimal_text(bounded(Decimal(text)), "e" in text)
-
-
-def canonical(text: str) -> str:
-    """The canonical text of a quantity; a text that is none is unchanged, and so is one of too many digits."""
-    found = QUANTITY.fullmatch(text.strip())
-    if not found or len(text) > MOST_DIGITS:
-        return text
-    exponent, suffix = found[2], found[3] or ""
-    with localcontext(EXACT):
-        digits = Decimal(found[1])
-        if exponent is not None:
-            return decimal_text(bounded(digits.scaleb(int(exponent))), True)
-        if suffix in BINARY[1:]:
-            return binary_text(bounded(digits * (1 << (10 * BINARY.index(suffix)))))
-        return decimal_text(bounded(digits.scaleb(DECIMAL[suffix])), False)
-
-
-def places(value: Any, tree: dict[str, Any]) -> Iterator[tuple[dict[str, Any], str]]:
-    """The map and the key of each value at the leaves of a tree of steps."""
+def places(value: Any, tree: dict[str, Any]) -> Iterator[tuple[dict[str, Any], str, bool]]:
+    """The map and the key of each value at the leaves of a tree of steps, and whether it is of a list of resources."""
     if not isinstance(value, dict):
         return
     for step, below in tree.items():
         for key in list(value) if step == "*" else [step] if step in value else []:
             if not below:
-                yield value, key
+                yield value, key, step == "*"
                 continue
             items = below.get("[]")
             if items is None:
@@ -160,9 +106,9 @@ def is_number(value: Any) -> bool:
 def write_quantities(thing: dict[str, Any]) -> None:
     """Replaces the quantities of an object by what an API server stores."""
     group = thing["apiVersion"].rpartition("/")[0]
-    for holder, key in places(thing, TREES.get((group, thing["kind"]), {})):
+    for holder, key, is_resource in places(thing, TREES.get((group, thing["kind"]), {})):
         value = holder[key]
         if isinstance(value, str):
-            holder[key] = canonical(value)
+            holder[key] = stored(value, is_resource)
         elif is_number(value):
-            holder[key] = quantity_of(value)
+            holder[key] = quantity_of(value, is_resource)
