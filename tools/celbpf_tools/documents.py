@@ -7,6 +7,7 @@ import sys
 from pathlib import Path
 from typing import Any, Iterator, Optional, Union
 
+from . import yaml_words
 from .entry import Stop
 
 try:
@@ -139,8 +140,9 @@ def yaml_of(text: str, path: Union[str, Path]) -> list[Any]:
         return [value for _, value in yaml_values(text, loader()) if value is not None]
     except yaml.YAMLError as why:
         mark = getattr(why, "problem_mark", None)
-        where = f" at line {mark.line + 1} column {mark.column + 1}" if mark else ""
-        raise Unreadable(f"{path}: {getattr(why, 'problem', None) or why}{where}") from why
+        words = yaml_words.told(text, why)
+        fault = yaml_words.placed(words, f"line {mark.line + 1} column {mark.column + 1}") if mark else words
+        raise Unreadable(f"{path}: {fault}") from why
     except ValueError as why:
         raise Unreadable(f"{path}: {why}") from why
     except RecursionError as why:

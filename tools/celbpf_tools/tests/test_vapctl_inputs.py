@@ -117,11 +117,11 @@ class Yaml(Read):
     def test_faults(self) -> None:
         for text, told in (
             ("a: [1\nb: 2\n", r"a.yaml:2: .* at column 2"),
-            ("{{ template }}: a\n", "a.yaml:1: found unhashable key at column .; if it is a template of a chart, give what `helm template` prints"),
-            ("{{a: 1}: a}\n", "a.yaml:1: found unhashable key at column ."),
+            ("{{ template }}: a\n", "a.yaml:1: a key is a list or a map at column .; put .* into quotes; if it is a template of a chart, give what `helm template` prints"),
+            ("{{a: 1}: a}\n", "a.yaml:1: a key is a list or a map at column .; put .* into quotes"),
             ("just a text\n", "a.yaml:1: it is not an object"),
             ("a: &a [*a]\n", "a.yaml: a value has itself as a part, by an alias"),
-            ("a: !!python/object:os.system x\n", "a.yaml:1: could not determine a constructor for the tag .* at column 4"),
+            ("a: !!python/object:os.system x\n", "a.yaml:1: a text begins with `!`, .* `!!python/object:os.system` at column 4; put it into quotes"),
             ("a: " + "[" * 1000, "a.yaml:1: it is nested too deep at column 30[0-9]"),
             ("- " * 1000, "a.yaml:1: it is nested too deep at column .*"),
             ("apiVersion: v1\nkind: Node\na: !!binary aGFsbG8=\n", "a.yaml:1: a is a bytes, which JSON does not have"),

@@ -12,6 +12,7 @@ from pathlib import Path
 from typing import Any, Callable, Iterable, Iterator, Optional
 
 from ..manifests.sending import with_name_label
+from ..yaml_words import placed
 from . import yaml_texts
 from .json_texts import documents_of, looks_like_json, place_of
 from .located import Document, Located
@@ -213,7 +214,7 @@ class Inputs:
         except yaml_texts.NotRead as why:
             if looks_like_json(text) and not name.endswith(yaml_texts.NAMES):
                 raise fault from why
-            told = f"{why.why} at column {why.column}" if why.column else why.why
+            told = placed(why.why, f"column {why.column}") if why.column else why.why
             raise Unread(told + TEMPLATE * bool(ACTION.search(text)), why.line) from why
 
     def of_document(self, name: str, document: Document) -> Iterator[Thing]:

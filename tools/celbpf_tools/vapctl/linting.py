@@ -87,6 +87,11 @@ class Fault:
             yield on_line(f"    write {self.hint}")
 
 
+def place_of(fault: Fault) -> tuple[int, int]:
+    """The line and the column of a refusal, by which refusals are sorted."""
+    return fault.position.line, fault.position.column
+
+
 def outside(text: str, at: int) -> str:
     """Which form of CEL that is outside the language does not fit at a place, if it is a known one."""
     if any(text[at - back :].startswith((".?", "[?")) for back in (0, 1) if at >= back):

@@ -33,21 +33,32 @@ BOOLS = ("true", "false", ERROR)
 INDENT = "      "
 # begins the line of a tree that says what to change
 CHANGE = "to be true: "
+# the most names of cases that a message lists
+MOST_NAMES = 20
 # stands for a message, to see whether the message is what is answered
 MARK = "the message"
 
 
-def case_named(path: Path, name: str) -> cases.Case:
-    """The case of this name in a test file."""
+def cases_of(path: Path) -> list[cases.Case]:
+    """The cases of a test file."""
     try:
-        found = cases.read(path).cases
+        return cases.read(path).cases
     except cases.Broken as why:
         raise Stop(f"{path}: {why}") from why
-    named: list[cases.Case] = [case for case in found if case.name == name]
+
+
+def case_named(place: Path, name: str) -> cases.Case:
+    """The case of this name in a test file, or in one of a folder."""
+    found = [case for path in cases.files_of([place]) for case in cases_of(path)]
+    named = [case for case in found if case.name == name]
     if not named:
-        raise Stop(f"{path}: no case {name!r}; there are {', '.join(repr(case.name) for case in found)}")
+        listed = ", ".join(repr(case.name) for case in found[:MOST_NAMES])
+        raise Stop(f"{place}: no case {name!r}; there are {listed}{', ..' if len(found) > MOST_NAMES else ''}")
+    files = list(dict.fromkeys(str(case.file) for case in named))
+    if len(files) > 1:
+        raise Stop(f"{place}: the case {name!r} is in {', '.join(files)}; give one of them")
     if "policy" not in named[0].beside:
-        raise Stop(f"{path}: the case {name!r} has no policy, but a cluster's state")
+        raise Stop(f"{files[0]}: the case {name!r} has no policy, but a cluster's state")
     return named[0]
 
 
@@ -57,7 +68,7 @@ def of_case(given: argparse.Namespace, folder: Path) -> argparse.Namespace:
     at, asked = case.file.parent, Asked(folder)
     review = asked.write("review.json", asked.review(case))
     found = {key: asked.file(case.beside[key], at) for key in ("policy", "namespace", "params") if key in case.beside}
-    return argparse.Namespace(**{**vars(given), **found, "review": review, "tests": given.policy})
+    return argparse.Namespace(**{**vars(given), **found, "review": review, "tests": str(case.file)})
 
 
 def documents(given: argparse.Namespace, kept: Files) -> list[Any]:

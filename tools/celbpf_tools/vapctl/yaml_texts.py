@@ -2,7 +2,7 @@
 
 from typing import Any, Iterator, Optional
 
-from .. import documents
+from .. import documents, yaml_words
 from .located import Document, Located
 
 NAMES = documents.YAML_NAMES
@@ -38,8 +38,7 @@ def documents_of(text: str) -> Iterator[Document]:
                 yield document_of(node, value, "*" in text)
     except yaml.YAMLError as why:
         mark = getattr(why, "problem_mark", None)
-        told = str(getattr(why, "problem", None) or getattr(why, "reason", None) or why)
-        raise NotRead(told, mark.line + 1 if mark else 0, mark.column + 1 if mark else 0) from why
+        raise NotRead(yaml_words.told(text, why), mark.line + 1 if mark else 0, mark.column + 1 if mark else 0) from why
     except RecursionError as why:
         raise NotRead("it is nested too deep") from why
     except (ValueError, TypeError, OverflowError) as why:

@@ -14,7 +14,7 @@ from ...entry import Stop
 from ..checking import stop_at
 from ..cluster import POLICY
 from ..inputs import STDIN, Inputs, Thing
-from ..linting import Fault, faults
+from ..linting import Fault, faults, place_of
 from ..one_decision import add_programs, named, policy_text
 from ..positions import Marks
 from ..refusals import words_of_refusal
@@ -65,8 +65,8 @@ def one_policy(inputs: Inputs, given: argparse.Namespace) -> Thing:
 
 
 def refuse(shown: Iterator[Fault]) -> NoReturn:
-    """Shows refusals on standard error, and ends."""
-    found = list(shown)
+    """Shows refusals on standard error in the order of the file, as `lint` does, and ends."""
+    found = sorted(shown, key=place_of)
     for fault in found:
         print(*fault.lines(), sep="\n", file=sys.stderr)
     raise Stop(f"{plural(len(found), 'refusal')}, and nothing is written", REFUSED)

@@ -13,7 +13,7 @@ from ...asking.translating import gatekeeper_of
 from ...entry import Stop
 from ..cluster import BINDING, POLICY, is_of, misspelt
 from ..inputs import Inputs, Thing, Trouble
-from ..linting import Fault, faults
+from ..linting import Fault, faults, place_of
 from ..one_decision import add_programs
 from ..positions import Marks
 from ..reports.github import command
@@ -44,10 +44,6 @@ def asked(given: argparse.Namespace, folder: str) -> Callable[[Thing, Any], Iter
         return lambda policy, marks: faults(program, policy, marks)
     gatekeeper = Gatekeeper(gatekeeper_of(given.gatekeeper, given.program), folder)
     return lambda policy, marks: wide_faults(gatekeeper, policy, marks)
-
-
-def place_of(fault: Fault) -> tuple[int, int]:
-    return fault.position.line, fault.position.column
 
 
 def run(given: argparse.Namespace) -> int:

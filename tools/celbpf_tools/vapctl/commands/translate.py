@@ -3,6 +3,7 @@
 import argparse
 import json
 import tempfile
+from typing import Any
 
 from ...asking.gatekeeper import Gatekeeper
 from ...asking.translating import gatekeeper_of
@@ -14,7 +15,7 @@ from ..wide_linting import wide_faults
 from .compile import one_policy, refuse
 
 MORE = """It prints the policy of the profile (docs/CEL.md) that is compiled for a policy as clusters store them, as JSON, which
-`celbpf` reads. Its annotations have the text of each part as its author wrote it. If the policy is refused, all refusals
+`celbpf` reads. It has the policy's name, and as annotations the text of each part as its author wrote it. If the policy is refused, all refusals
 are shown as `vapctl lint` shows them, and nothing is printed."""
 
 
@@ -35,5 +36,13 @@ def run(given: argparse.Namespace) -> int:
         document = json.loads(policy_text(policy))
         if gatekeeper.refusal(document):
             refuse(wide_faults(gatekeeper, policy, Marks(inputs.texts[policy.place.file])))
-        print(json.dumps(json.loads(gatekeeper.translation(document)), indent=2, ensure_ascii=False))
+        translation = with_name(json.loads(gatekeeper.translation(document)), document)
+    print(json.dumps(translation, indent=2, ensure_ascii=False))
     return GOOD
+
+
+def with_name(translation: dict[str, Any], policy: dict[str, Any]) -> dict[str, Any]:
+    """A translation, which has annotations alone, with the name of its policy."""
+    metadata = policy.get("metadata")
+    name = metadata.get("name") if isinstance(metadata, dict) else None
+    return {**translation, "metadata": {"name": name, **translation["metadata"]}} if isinstance(name, str) else translation

@@ -22,7 +22,7 @@ from ..statuses import BAD, GOOD, REFUSED, WORDS
 
 MORE = """Of one policy it prints each part with its value, the parts of what is false with theirs, and what to change. The policy is
 asked whether or not its matchConstraints match. Expressions are shown as their author wrote them; --translated also shows
-each as it is compiled. With --case the only argument is a test file, and the case has its policy and review. With --cluster
+each as it is compiled. With --case the only argument is a test file, or a folder of them, and the case has its policy and review. With --cluster
 or --policy the only argument is the review: it prints what each policy does under each of its bindings, and for those that
 do not match which rule or selector keeps the request out."""
 STATUSES = {ALLOWED: GOOD, DENIED: BAD}
@@ -31,7 +31,7 @@ STATUSES = {ALLOWED: GOOD, DENIED: BAD}
 def words(parser: argparse.ArgumentParser) -> None:
     """The options of the command."""
     add_words(parser)
-    parser.add_argument("--case", metavar="NAME", help="the case of this name of the test file POLICY")
+    parser.add_argument("--case", metavar="NAME", help="the case of this name of the test file POLICY, or of one in the folder POLICY")
     parser.add_argument("--html", metavar="F", help="also write a page for a browser, which shows the run step by step")
     parser.add_argument("--translated", action="store_true", help="also show each expression as it is compiled")
     group = parser.add_argument_group("a decision of all policies", "The only argument is then REVIEW.")
@@ -55,7 +55,7 @@ def refuse_words(given: argparse.Namespace) -> None:
     if given.translated and given.profile:
         raise Stop("with --profile nothing is translated", WORDS)
     if not is_whole and (given.case is None) == (given.review is None):
-        raise Stop("a policy and a review are needed, or --case and a test file, or --cluster and a review", WORDS)
+        raise Stop("a policy and a review are needed, or --case and a test file or a folder, or --cluster and a review", WORDS)
 
 
 def has_own(given: argparse.Namespace) -> bool:
