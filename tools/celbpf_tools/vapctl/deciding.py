@@ -8,7 +8,7 @@ all findings, since a binding is not configured or a policy does not decide, eac
 import json
 import re
 from pathlib import Path
-from typing import Any, Iterator
+from typing import Any, Iterator, Optional
 
 from ..asking.gatekeeper import REFUSAL, without_file
 from ..manifests.kinds import Resources
@@ -18,6 +18,8 @@ from .inputs import Thing
 from .refusals import NO_KIND, why_blocked
 from .requests import why_no_ints
 from .results import ALLOWED, AUDIT, DENIED, DENY, ERROR, UNDECIDED, WARN, Finding
+from .rules import Refusal
+from .stored_fields import field_refusals
 
 WARNING = re.compile(r"Validation failed for ValidatingAdmissionPolicy '(.*?)' with binding '(.*?)': (.*)", re.DOTALL)
 DENIAL = re.compile(r"is forbidden: ValidatingAdmissionPolicy '(.*?)'(?: with binding '(.*?)')? denied request: (.*)", re.DOTALL)
@@ -81,7 +83,9 @@ class Deciding:
             return f"{thing.place}: {thing.title}: {why} ({code})"
         for thing in {"C5": self.state.bindings, "C6": self.state.policies}.get(code, ()):
             if thing.name == name:
-                return f"{thing.place}: {thing.title}: {why}: {part or self.cause(thing)} ({code})"
+                found = first_in(thing, part)
+                told = f"{found.key}: {found.meaning}" if found else f"{why}: {part or self.cause(thing)}"
+                return f"{thing.place}: {thing.title}: {told} ({code})"
         return f"{why} ({code})" if code in CAUSES else line
 
     def cause(self, thing: Thing) -> str:
@@ -177,6 +181,12 @@ class Deciding:
         """The most severe of a binding's actions."""
         given = self.actions.get((policy, binding), [])
         return DENY if "Deny" in given else WARN if "Warn" in given else AUDIT if "Audit" in given else DENY
+
+
+def first_in(thing: Thing, part: str) -> Optional[Refusal]:
+    """The first refusal of a policy or a binding, of a binding in a part, such as `spec.paramRef`, if that is told."""
+    found = (one for one in field_refusals(thing, True) if not part or f"{one.key}.".startswith((f"{part}.", f"{part}[")))
+    return next(found, None)
 
 
 def repaired(thing: Thing, key: str, value: Any) -> Thing:

@@ -1,4 +1,4 @@
-"""What `lint` shows of kinds that are misspelt, and of the rules of policies and bindings."""
+"""What `lint` shows of kinds that are misspelt, and of what policies and bindings have beside expressions."""
 
 from collections.abc import Iterator
 from typing import Optional
@@ -9,6 +9,7 @@ from .inputs import Thing
 from .linting import Fault
 from .positions import Marks
 from .rules import CODES, position_of, refusals
+from .stored_fields import field_refusals
 
 
 class KindFault(Fault):
@@ -26,6 +27,6 @@ def kind_fault(thing: Thing, meant: str, marks: Optional[Marks]) -> Fault:
 
 
 def rule_faults(thing: Thing, marks: Optional[Marks]) -> Iterator[Fault]:
-    """The refusals of the rules of a policy or a binding."""
-    for one in refusals(thing):
+    """The refusals of what a policy or a binding has beside expressions: its rules, selectors, kinds and actions."""
+    for one in (*refusals(thing), *field_refusals(thing)):
         yield Fault(thing, CODES[thing.kind], Refused(one.meaning, key=one.key), position_of(thing, one.path, marks))

@@ -78,9 +78,12 @@ def faults_of(thing: Thing, marks: Any, shown: Optional[Callable[[Thing, Any], I
     if meant := misspelt(thing):
         yield kind_fault(thing, meant, marks)
         return
-    if shown and thing.kind == POLICY:
-        yield from shown(thing, marks)
-    yield from rule_faults(thing, marks)
+    keys = set[str]()
+    for fault in shown(thing, marks) if shown and thing.kind == POLICY else ():
+        keys.add(fault.refused.key)
+        yield fault
+    # what K3 refuses is told once
+    yield from (fault for fault in rule_faults(thing, marks) if fault.refused.key not in keys)
 
 
 def summary(policies: int, refused: int, bindings: int, unread: int) -> str:
