@@ -37,6 +37,22 @@ def region_at(code: Code, address: int) -> Optional[tuple[int, int]]:
     return next((one for one in regions_of(code).values() if one[0] <= address < one[0] + one[1]), None)
 
 
+def has_value(child: Child, reference: int) -> bool:
+    """Whether there is a value with this reference at the place that is shown."""
+    return child.ask(f"v {reference}")[0] != "? range"
+
+
+def count_of_values(child: Child) -> int:
+    """How many values there are, those of the start among them."""
+    low, high = FIRST_PLACED, FIRST_PLACED + 1
+    while has_value(child, high - 1):
+        low, high = high, high * 2
+    while low < high - 1:
+        middle = (low + high) // 2
+        low, high = (middle, high) if has_value(child, middle - 1) else (low, middle)
+    return low
+
+
 def word(number: int) -> str:
     """A word as the debugger writes it."""
     return f"0x{number:016x}"
@@ -158,23 +174,9 @@ class View:
             found.append(self.opened(f"call {number}", record, node))
         return found
 
-    def placed(self) -> int:
-        """How many values there are, those of the start among them."""
-        low, high = FIRST_PLACED, FIRST_PLACED + 1
-        while self.has_value(high - 1):
-            low, high = high, high * 2
-        while low < high - 1:
-            middle = (low + high) // 2
-            low, high = (middle, high) if self.has_value(middle - 1) else (low, middle)
-        return low
-
-    def has_value(self, reference: int) -> bool:
-        """Whether there is a value with this reference."""
-        return self.child.ask(f"v {reference}")[0] != "? range"
-
     def values(self) -> list[dict[str, Any]]:
         """The values of the review, and those that the program has placed."""
-        count = self.placed() - FIRST_PLACED
+        count = count_of_values(self.child) - FIRST_PLACED
         node = Node(count, lambda low, high: [
             self.value(str(at), at) for at in range(FIRST_PLACED + low, FIRST_PLACED + high)
         ], True, NEWEST)

@@ -1,11 +1,16 @@
 """A session on a terminal, with a stand-in for the program."""
 
+import json
 import os
 import pty
 import sys
 import unittest
+from typing import Any
 
-from ..home import PACKAGE
+from ..dap.parts import parts_of
+from ..home import EXAMPLES, PACKAGE
+from ..slots.layout import program_of
+from ..slots.mapping import SlotMap
 from ..vapctl import session
 
 PROGRAM = """import sys
@@ -50,12 +55,31 @@ def on_terminal(image: str, *lines: str) -> tuple[int, list[str]]:
 
 class Sessions(unittest.TestCase):
     def test_commands_and_what_is_none(self) -> None:
-        status, said = on_terminal("image", "c", "  rs   2 ", "s", "v 9", "v 99", "s 01", "nothing", "g 1000001 1", "quit")
+        status, said = on_terminal("image", "c", "  rs   2 ", "s", "v 9", "v 99", "v", "nothing", "r 3", "quit")
         self.assertEqual((status, said), (0, [
             "`help` lists the commands", "step 6 pc 3 exited 0x0000000000000002", "step 4 pc 2 running", "step 5 pc 3 running",
-            "value 9 3", "? range: the number is out of range", "s 01: no command; `help` lists them",
-            "nothing: no command; `help` lists them", "g 1000001 1: no command; `help` lists them",
+            "value 9 3", "? range: the number is out of range", "10 values, 0 to 9", "nothing: no command; `help` lists them",
+            "r 3: `r` takes no more words. `r`: show the registers",
         ]))
+
+    def test_a_wrong_argument(self) -> None:
+        status, said = on_terminal("image", "s 01", "g 3 1", "m 0X1 3", "b validation 0", "p", "q")
+        whole = "is a whole number without leading zeros"
+        parts = "no parts are known: this is an image alone, or its parts are not mapped"
+        self.assertEqual((status, said[1:]), (0, [
+            f"s 01: N {whole}. `s N`: go N steps on; `s` alone is `s 1`", f"g 3 1: K {whole}. `g K`: go to step K",
+            "m 0X1 3: A is 0x and 1 to 16 hex digits in lower case; L is from 1 to 256. `m A L`: show L bytes of memory from address A on, "
+            "as `m 0x300000000 16`",
+            f"b validation 0: {parts}", parts,
+        ]))
+
+    def test_breakpoints_are_listed(self) -> None:
+        _, said = on_terminal("image", "b", "b 4", "b 2", "b", "d 4", "b", "q")
+        self.assertEqual(said[1:], ["no breakpoint is set", "break 4", "break 2", "break 2", "break 4", "clear 4", "break 2"])
+
+    def test_a_fault_is_explained(self) -> None:
+        _, said = on_terminal("fault", "c", "q")
+        self.assertEqual(said[1:], ["step 6 pc 3 fault F3: an access is outside the regions, or crosses the border of one"])
 
     def test_help_has_each_command_of_the_page(self) -> None:
         status, said = on_terminal("image", "help", "q")
@@ -63,7 +87,31 @@ class Sessions(unittest.TestCase):
         page = (PACKAGE.parents[1] / "docs" / "DEBUGGER.md").read_text(encoding="utf-8")
         rows = page.split("| Line | Effect and answer |")[1].split("\n\n")[0].split("\n")[2:]
         due = [word for row in rows for word in row.split("|")[1].replace("`", "").strip().split(", ")]
-        self.assertEqual(sorted(line[:6].strip() for line in said[1:]), sorted(due))
+        # of a terminal alone
+        self.assertIn("`p` lists", " ".join(page.split("## On a terminal")[1].split("## ")[0].split()))
+        self.assertEqual(sorted(line[:6].strip() for line in said[1:]), sorted([*due, "p"]))
+
+
+class OfPolicy(unittest.TestCase):
+    """A session on a policy, whose parts are known; the slots are those of the policy in docs/POLICIES.md."""
+
+    def setUp(self) -> None:
+        policy = json.loads((EXAMPLES / "replicas" / "policy.json").read_text())
+        lines = SlotMap(program_of(policy)).lines.values()
+        child: Any = self
+        self.asker = session.Asker(child, parts_of(policy, "\n".join(lines), {}))
+
+    def ask(self, line: str) -> list[str]:
+        """Stands in for the process."""
+        slot = line.split()[-1]
+        return {"b": [f"break {slot}"], "s": [f"step {slot} pc {slot} running"]}[line[0]]
+
+    def test_parts(self) -> None:
+        self.assertEqual(self.asker.answer("p"), ["    0 validation 0: object.spec.replicas <= 3"])
+        self.assertEqual(self.asker.answer("s 9"), ["step 9 pc 9 running  validation 0: object.spec.replicas"])
+        self.assertEqual(self.asker.answer("b validation 0"), ["break 0  validation 0: object"])
+        self.assertEqual(self.asker.answer("b"), ["break 0  validation 0: object"])
+        self.assertEqual(self.asker.answer("b message 7"), ["b message 7: no part is called message 7; `p` lists them"])
 
 
 if __name__ == "__main__":

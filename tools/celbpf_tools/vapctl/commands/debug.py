@@ -5,8 +5,10 @@ import tempfile
 from pathlib import Path
 from typing import Iterable, Optional
 
-from ...asking.program import NotAnswered, located
+from ...asking import policies
+from ...asking.program import NotAnswered, Program, located
 from ...asking.translating import program_of
+from ...dap.parts import Parts, parts_of, texts_of
 from ...dap.serving import serve
 from ...entry import Stop
 from ..inputs import STDIN
@@ -61,7 +63,12 @@ def session(given: argparse.Namespace, folder: Path) -> int:
     except NotAnswered as why:
         raise Stop(words_of_refusal(why.line), REFUSED) from why
     files = ((key, decision.files[key]) for key in ("review", "namespace", "params"))
-    return run_session(program.path, [image, *beside(files)])
+    return run_session(program.path, [image, *beside(files)], lambda: parts_in(program, str(decision.files["policy"]), image))
+
+
+def parts_in(program: Program, policy: str, image: str) -> Parts:
+    """The parts of a policy that is compiled to this image, with their texts as the author wrote them."""
+    return parts_of(program.document(policy), program.run("list", image).stdout, texts_of(policies.read(policy)))
 
 
 def is_image(name: Optional[str]) -> bool:
