@@ -6,7 +6,7 @@ from dataclasses import dataclass
 from typing import Callable
 
 from .constants import Constants
-from .forms import EXPECTED, FAR, FORMS, IMMEDIATE, MEMORY, REGISTER, TARGET, VALUE, WIDE
+from .forms import EXPECTED, FAR, FORMS, HELPER, HELPERS, IMMEDIATE, MEMORY, REGISTER, TARGET, VALUE, WIDE
 from .scanning import Fault, Piece, Pieces
 
 REGISTERS = tuple(f"r{number}" for number in range(11))
@@ -61,7 +61,7 @@ class Operands:
         self.jumps: list[Jump] = []
         self.readers: dict[str, Callable[[], str]] = {
             REGISTER: self.register, IMMEDIATE: self.immediate, VALUE: self.value, MEMORY: self.memory, WIDE: self.wide,
-            TARGET: lambda: self.target(16, TARGET), FAR: lambda: self.target(32, FAR),
+            TARGET: lambda: self.target(16, TARGET), FAR: lambda: self.target(32, FAR), HELPER: self.helper,
         }
 
     def read(self, kinds: tuple[str, ...]) -> list[str]:
@@ -88,6 +88,16 @@ class Operands:
             return str(self.constant(self.pieces.take())[1])
         value, column = self.pieces.number(expected)
         return str(fits(value, 32, column, instead(self.mnemonic, value)))
+
+    def helper(self) -> str:
+        """The number of a helper, or its name."""
+        piece = self.pieces.next
+        if piece.kind != "word" or piece.text.endswith(SIZE):
+            return self.immediate(EXPECTED[HELPER])
+        if piece.text not in HELPERS:
+            more = similar(piece.text, list(HELPERS)) or "; docs/HELPERS.md lists them, and `call_local` calls a label"
+            raise Fault(piece.column, f"no helper is called {piece.shown}{more}")
+        return str(HELPERS.index(self.pieces.take().text) + 1)
 
     def value(self) -> str:
         """A register or a number."""

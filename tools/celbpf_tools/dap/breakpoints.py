@@ -1,8 +1,9 @@
 """The breakpoints of a session: groups of slots, each replaced as a whole, of which the process keeps the union."""
 
-from typing import Any, Iterable, Optional
+from typing import Any, Callable, Iterable, Optional
 
 from .child import Child, Refused
+from .conditions import Condition
 
 # what a stop at a breakpoint of a group is called
 LINE = "breakpoint"
@@ -20,6 +21,8 @@ class Breakpoints:
 
     def __init__(self) -> None:
         self.groups: dict[Group, dict[int, list[int]]] = {}
+        # by the number of a breakpoint its condition
+        self.conditions: dict[int, Condition] = {}
 
     def slots(self) -> set[int]:
         """All slots at which a run stops."""
@@ -42,11 +45,23 @@ class Breakpoints:
             child.ask(f"d {slot}")
         return refused
 
-    def at(self, slot: int) -> tuple[Optional[str], list[int]]:
-        """The kind of a stop at a slot, `None` if no breakpoint is there, and the numbers of the breakpoints."""
+    def has_passing(self, slot: int) -> bool:
+        """Whether a move goes to a slot."""
+        return any(kind == PASSING and slot in group for (kind, _), group in self.groups.items())
+
+    def at(self, slot: int, words: Callable[[], dict[str, int]]) -> tuple[Optional[str], list[int]]:
+        """The kind of a stop at a slot, `None` if no breakpoint is there whose condition holds of these words, and the numbers of
+        the breakpoints.
+        """
         kinds, numbers = [], []
         for (kind, _), group in self.groups.items():
-            if slot in group and kind != PASSING:
+            holding = [number for number in group.get(slot, ()) if self.holds(number, words)]
+            if holding and kind != PASSING:
                 kinds.append(kind)
-                numbers += group[slot]
+                numbers += holding
         return (kinds[0] if kinds else None), sorted(numbers)
+
+    def holds(self, number: int, words: Callable[[], dict[str, int]]) -> bool:
+        """Whether a breakpoint has no condition, or one that holds."""
+        condition = self.conditions.get(number)
+        return condition is None or condition.holds(words())

@@ -6,6 +6,7 @@ CAPABILITIES = {
     "supportsFunctionBreakpoints": True,
     "supportsInstructionBreakpoints": True,
     "supportsDataBreakpoints": True,
+    "supportsConditionalBreakpoints": True,
     "supportsBreakpointLocationsRequest": True,
     "supportsExceptionInfoRequest": True,
     "supportsStepBack": True,

@@ -42,6 +42,8 @@ class Debuggee:
         self.motion: Optional[Motion] = None
         self.after: list[Callable[[], None]] = []
         self.filters = {FAULT_FILTER}
+        # the references of values that a client was told, which a breakpoint may name
+        self.told_values = set[int]()
         # the number of the first line and column, as the client counts them
         self.first = 1
         self.is_over = False
@@ -107,7 +109,7 @@ class Debuggee:
             body["text"] = f"{place.fault}: {FAULTS.get(place.fault or '', '')}"
         elif why in STOPS:
             body["text"] = STOPS[why]
-        numbers = session.breakpoints.at(place.pc)[1]
+        numbers = session.run.stop_here()[1]
         if numbers and why != DATA and place.is_running:
             body["hitBreakpointIds"] = numbers
         if why == END:

@@ -18,6 +18,7 @@ from ..vapctl.refusals import words_of_refusal
 from .arguments import Arguments, BadRequest
 from .child import Child, Ended
 from .code import Code
+from .manifests import review_of
 from .parts import Parts, parts_of, texts_of
 
 # what a step of an editor goes by: a part of the policy, a sub-expression, or an instruction
@@ -25,7 +26,7 @@ PART, PIECE, INSTRUCTION = "part", "expression", "instruction"
 DOCUMENTS = ("review", "namespace", "params")
 # the keys of a launch
 KEYS = (
-    "image", "policy", *DOCUMENTS, "listing", "program", "gatekeeper", "cwd", "noDebug", "stopOnEntry", "stepBy", "profile", "translated",
+    "image", "policy", *DOCUMENTS, "object", "listing", "program", "gatekeeper", "cwd", "noDebug", "stopOnEntry", "stepBy", "profile", "translated",
 )
 # what clients add for themselves, beside keys that begin with two underscores
 OF_CLIENTS = ("name", "type", "request", "preLaunchTask", "postDebugTask", "presentation", "internalConsoleOptions", "debugServer")
@@ -56,6 +57,8 @@ class Order:
     gatekeeper: Optional[str] = None
     is_profile: bool = False
     is_translated: bool = False
+    # the name of the object, if the review is a manifest with several
+    named: Optional[str] = None
 
     @property
     def title(self) -> str:
@@ -95,7 +98,7 @@ def ordered(given: Arguments, own: Given) -> Order:
     if step_by not in (PART, PIECE, INSTRUCTION):
         raise BadRequest(f"stepBy: not {PART}, {PIECE} or {INSTRUCTION}")
     made = Order(image, policy, documents, path("listing"), path("program") or own.program, on_entry, stops, step_by)
-    made.gatekeeper = path("gatekeeper") or own.gatekeeper
+    made.gatekeeper, made.named = path("gatekeeper") or own.gatekeeper, given.text("object")
     made.is_profile, made.is_translated = given.truth("profile", own.is_profile), given.truth("translated", False)
     return made
 
@@ -137,10 +140,17 @@ def image_of(order: Order, program: Program, folder: str) -> str:
     return image
 
 
+def document_of(order: Order, asked: Asked, option: str, file: str) -> str:
+    """The file of a document; of a manifest the review that creates its object."""
+    made = review_of(asked.files.named(file), order.named) if option == "--review" else None
+    return asked.file(file, Path()) if made is None else asked.of_text(made)
+
+
 def with_files(order: Order, folder: str) -> Order:
     """The order with files of JSON that can be opened more than once."""
     asked = Asked(Path(folder))
-    documents = [word if word.startswith("--") else asked.file(word, Path()) for word in order.documents]
+    named = zip(order.documents[::2], order.documents[1::2])
+    documents = [word for option, file in named for word in (option, document_of(order, asked, option, file))]
     policy = asked.file(order.policy, Path()) if order.policy else None
     return replace(order, image=asked.files.maybe(order.image), policy=policy, documents=documents)
 

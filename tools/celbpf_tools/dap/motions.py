@@ -63,6 +63,15 @@ class Run:
         """Whether a value has this reference at the place that is shown."""
         return self.child.ask(f"v {reference}")[0] != "? range"
 
+    def words(self) -> dict[str, int]:
+        """The words at the place, by their names."""
+        found = {name: int(word, 16) for name, word in (line.split() for line in self.child.many("r"))}
+        return {**found, "pc": self.place.pc, "step": self.place.step}
+
+    def stop_here(self) -> tuple[Optional[str], list[int]]:
+        """The kind of a stop at the place, `None` if no breakpoint is there that holds, and the numbers of the breakpoints."""
+        return self.breakpoints.at(self.place.pc, self.words)
+
     def ended(self) -> Optional[str]:
         """Why no further step can be made, or `None`."""
         if not self.place.is_running:
@@ -95,10 +104,10 @@ class Run:
             if made:
                 self.move(f"g {min(made)}")
                 return DATA
-            kind, _ = self.breakpoints.at(self.place.pc)
+            kind, _ = self.stop_here()
             if kind and self.place.is_running:
                 return kind
-            if self.place.pc in self.breakpoints.slots() and self.place.is_running:
+            if self.breakpoints.has_passing(self.place.pc) and self.place.is_running:
                 return STEP
             yield
         return why
@@ -122,18 +131,20 @@ class Run:
         self.child.move(f"g {shown}")
         return high
 
-    @at_once
-    def reverse(self) -> str:
+    def reverse(self) -> Motion:
         """Back to the last breakpoint, to the instruction that makes a watched value, or to the first step."""
         shown = self.place.step
         # nothing has been placed at step 0 but the values of the start, which no step makes
         made = [self.made(one, 0, shown) - 1 for one in self.watched if self.has_value(one)]
-        before = [step for step in made if step < shown]
+        last = max((step for step in made if step < shown), default=0)
         self.move("rc")
-        if before and max(before) > self.place.step:
-            self.move(f"g {max(before)}")
+        while self.place.step > last and not self.stop_here()[0]:
+            yield
+            self.move("rc")
+        kind, _ = self.stop_here()
+        if last > self.place.step or last and last == self.place.step and not kind:
+            self.move(f"g {last}")
             return DATA
-        kind, _ = self.breakpoints.at(self.place.pc)
         return kind or FIRST
 
     def to(self, slot: int, depth: int) -> Motion:
@@ -143,7 +154,7 @@ class Run:
             while True:
                 why = yield from self.proceed()
                 if self.place.pc == slot and self.place.is_running and len(self.records()) <= depth:
-                    return self.breakpoints.at(slot)[0] or STEP
+                    return self.stop_here()[0] or STEP
                 if why != STEP:
                     return why
                 yield
@@ -171,7 +182,7 @@ class Run:
                 self.move("s 1")
                 if self.ended():
                     break
-                kind, _ = self.breakpoints.at(self.place.pc)
+                kind, _ = self.stop_here()
                 if kind:
                     return kind
                 part = named(self.place.pc)

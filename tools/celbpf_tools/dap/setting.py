@@ -3,15 +3,17 @@
 import os
 import re
 from dataclasses import dataclass
-from typing import Any, Optional
+from typing import Any, Callable, Optional
 
 from .arguments import Arguments, BadRequest
 from .breakpoints import FUNCTION, INSTRUCTION, LINE, Group
 from .capabilities import CAPABILITIES, FAULT_FILTER
+from .conditions import Condition, condition_of
 from .debuggee import Debuggee, Session
 from .launching import launched, ordered
 from .motions import FIRST
 from .showing import LISTING, listing_of, number_of
+from .variables import FIRST_PLACED
 
 DATA_ID = re.compile(r"v ([1-9][0-9]*)$")
 NO_SOURCE = "only the listing has lines with code"
@@ -19,13 +21,24 @@ NO_SOURCE = "only the listing has lines with code"
 
 @dataclass(frozen=True)
 class Wish:
-    """A breakpoint that a client asked for: its number, and the line, the slot or the name of a part."""
+    """A breakpoint that a client asked for: its number, and the line, the slot or the name of a part, its condition, or why it
+    is not set.
+    """
 
     number: int
     line: int = 0
     slot: int = -1
     name: str = ""
+    condition: tuple[Condition, ...] = ()
     why: str = ""
+
+
+def wished(given: Arguments, read: Callable[[Arguments], dict[str, Any]]) -> dict[str, Any]:
+    """What a client asks for, or why one such breakpoint is not set; the others are."""
+    try:
+        return {**read(given), "condition": condition_of(given)}
+    except BadRequest as why:
+        return {"why": str(why)}
 
 
 class Setting:
@@ -36,6 +49,8 @@ class Setting:
         self.wishes: dict[Group, list[Wish]] = {}
         self.given = 0
         self.launch_words = Arguments({})
+        # the references at whose making a run stops
+        self.watched = set[int]()
         self.is_configured = False
         self.handlers = {
             "initialize": self.initialize, "launch": self.launch, "attach": self.attach,
@@ -57,6 +72,7 @@ class Setting:
         """Launches an image, or a policy that it compiles first; then breakpoints can be set."""
         if self.debuggee.session:
             raise BadRequest("launch: a session is there; restart it, or end it first")
+        self.watched, self.debuggee.told_values = set(), set()
         self.begin(given)
         self.wishes, self.is_configured = {}, False
         self.debuggee.after.append(lambda: self.debuggee.connection.event("initialized"))
@@ -66,6 +82,7 @@ class Setting:
         """Launches what the arguments ask for."""
         made = launched(ordered(given, self.debuggee.given))
         self.debuggee.session = Session(made, self.debuggee.store)
+        self.debuggee.session.run.watched = self.watched
         self.launch_words = given
 
     def attach(self, _: Arguments) -> Optional[dict[str, Any]]:
@@ -105,6 +122,7 @@ class Setting:
         found = [(wish, self.slots_of(session, group, wish)) for wish in self.wishes[group]]
         stops = session.launched.order.stops_at_all
         set_ones = [(wish.number, slots) for wish, (slots, _) in found if slots and stops]
+        session.breakpoints.conditions |= {wish.number: one for wish, _ in found for one in wish.condition}
         refused = session.breakpoints.replace(session.child, group, set_ones)
         answers = []
         for wish, (slots, why) in found:
@@ -116,6 +134,8 @@ class Setting:
 
     def slots_of(self, session: Session, group: Group, wish: Wish) -> tuple[tuple[int, ...], str]:
         """The slots of a breakpoint, or why it has none."""
+        if wish.why:
+            return (), wish.why
         kind, name = group
         if kind == FUNCTION:
             slots = session.parts.slots_of(wish.name)
@@ -130,8 +150,6 @@ class Setting:
 
     def slots_of_instruction(self, session: Session, wish: Wish) -> tuple[tuple[int, ...], str]:
         """The first slot of an instruction: a wide load has a second, at which no run stops."""
-        if wish.why:
-            return (), wish.why
         start = session.code.start_of(wish.slot)
         outside = f"slot {wish.slot} is outside the code, which has {session.code.slots}"
         return ((start,), "") if start is not None else ((), outside)
@@ -155,23 +173,19 @@ class Setting:
         """Replaces the breakpoints on lines of a source."""
         session = self.debuggee.launched()
         name = self.source_name(session, given.part("source"))
-        wishes = [{"line": self.debuggee.own_line(one.number("line"))} for one in given.parts("breakpoints")]
-        return self.asked((LINE, name), wishes)
+        own = self.debuggee.own_line
+        return self.asked((LINE, name), [wished(one, lambda one: {"line": own(one.number("line"))}) for one in given.parts("breakpoints")])
 
     def instructions(self, given: Arguments) -> Optional[dict[str, Any]]:
         """Replaces the breakpoints on instructions."""
-        wishes: list[dict[str, Any]] = []
-        for one in given.parts("breakpoints"):
-            try:
-                named = one.needed_text("instructionReference")
-                wishes.append({"slot": number_of(named, "instructionReference") + one.number("offset", 0)})
-            except BadRequest as why:
-                wishes.append({"why": str(why)})
-        return self.asked((INSTRUCTION, ""), wishes)
+        def read(one: Arguments) -> dict[str, Any]:
+            return {"slot": number_of(one.needed_text("instructionReference"), "instructionReference") + one.number("offset", 0)}
+
+        return self.asked((INSTRUCTION, ""), [wished(one, read) for one in given.parts("breakpoints")])
 
     def functions(self, given: Arguments) -> Optional[dict[str, Any]]:
         """Replaces the breakpoints on parts of the policy."""
-        return self.asked((FUNCTION, ""), [{"name": one.needed_text("name")} for one in given.parts("breakpoints")])
+        return self.asked((FUNCTION, ""), [wished(one, lambda one: {"name": one.needed_text("name")}) for one in given.parts("breakpoints")])
 
     def exceptions(self, given: Arguments) -> Optional[dict[str, Any]]:
         """Replaces the filters: whether a session stops at a fault."""
@@ -185,16 +199,28 @@ class Setting:
         """Replaces the values at whose making a run stops."""
         session = self.debuggee.launched()
         answers: list[dict[str, Any]] = []
-        watched = set()
+        self.watched = set()
         for one in given.parts("breakpoints"):
             name = one.needed_text("dataId")
-            found = DATA_ID.match(name)
-            if found:
-                watched.add(int(found[1]))
-            why = {} if found else {"message": f"{name}: not the name of a value"}
-            answers.append({"verified": bool(found), **why})
-        session.run.watched = watched
+            why = self.why_not_watched(session, name, one)
+            if not why:
+                self.watched.add(int(name.split()[1]))
+            answers.append({"verified": not why, **({"message": why} if why else {})})
+        session.run.watched = self.watched
         return {"breakpoints": answers}
+
+    def why_not_watched(self, session: Session, name: str, given: Arguments) -> str:
+        """Why no run stops at the making of a value; empty if one does."""
+        found = DATA_ID.match(name)
+        if not found:
+            return f"{name}: not the name of a value"
+        reference = int(found[1])
+        if reference < FIRST_PLACED:
+            return f"{name}: the program does not make it"
+        if any(given.text(key) for key in ("condition", "hitCondition")):
+            return f"{name}: a breakpoint on a value has no condition"
+        known = reference in self.debuggee.told_values or session.run.has_value(reference)
+        return "" if known else f"{name}: there is no such value here; set it where the value is shown"
 
     def locations(self, given: Arguments) -> Optional[dict[str, Any]]:
         """The lines of a range on which a breakpoint can be set."""

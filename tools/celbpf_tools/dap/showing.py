@@ -163,4 +163,5 @@ class Showing:
             session.child.one(f"v {reference}")
         except Refused as why:
             return {"dataId": None, "description": f"{name}: {why}"}
+        self.debuggee.told_values.add(reference)
         return {"dataId": f"v {reference}", "description": f"the making of value {reference}", "accessTypes": ["write"]}

@@ -1,10 +1,13 @@
 """The friendlier text of programs: its pieces, numbers and constants."""
 
+import re
 import unittest
 
+from ..assembling.forms import HELPERS
 from ..assembling.items import Jump
 from ..assembling.programs import Placed, Program, jump_faults, read
 from ..assembling.scanning import Fault, Pieces, bytes_of
+from ..home import ROOT
 
 
 def plain(text: str) -> str:
@@ -48,6 +51,28 @@ class Numbers(unittest.TestCase):
         for number in ("18446744073709551616", "-9223372036854775809"):
             with self.subTest(number), self.assertRaises(Fault):
                 plain(f"lddw r1, {number}")
+
+
+class Helpers(unittest.TestCase):
+    def test_names_are_those_of_the_page(self) -> None:
+        page = (ROOT / "docs" / "HELPERS.md").read_text(encoding="utf-8")
+        rows = [(int(number), name) for number, name in re.findall(r"^(\d+)\. `(\w+)\(", page, re.MULTILINE)]
+        self.assertEqual(rows, list(enumerate(HELPERS, 1)))
+        for number, name in rows:
+            self.assertEqual(plain(f"call {name}"), f"call {number}\n")
+
+    def test_numbers_and_what_is_none(self) -> None:
+        self.assertEqual(plain("call 0x4 ; text_const"), "call 4\n")
+        self.assertEqual(plain("call 77"), "call 77\n")
+        for operand, why in [
+            ("sise", "no helper is called `sise`; there is `size`"),
+            ("end", "no helper is called `end`; there is `ends`"),
+            ("main", "no helper is called `main`; docs/HELPERS.md lists them, and `call_local` calls a label"),
+            ("", "the number or the name of a helper is expected, and here is the end of the line"),
+        ]:
+            with self.subTest(operand), self.assertRaises(Fault) as raised:
+                plain(f"call {operand}")
+            self.assertEqual((raised.exception.column, raised.exception.why), (6 if operand else 5, why))
 
 
 class Constants(unittest.TestCase):
