@@ -70,11 +70,11 @@ def junit(results: list[Any], target: Union[str, BinaryIO]) -> None:
         of_file = [result for result in results if result.file == file]
         unread = sum(result.is_unread for result in of_file)
         failed = sum(bool(result.failures) for result in of_file) - unread
-        suite = xml.SubElement(top, "testsuite", name=file, tests=str(len(of_file)))
+        suite = xml.SubElement(top, "testsuite", name=xml_text(file), tests=str(len(of_file)))
         suite.set("failures", str(failed))
         suite.set("errors", str(unread))
         for result in of_file:
-            case = xml.SubElement(suite, "testcase", classname=file, name=result.name or "read")
+            case = xml.SubElement(suite, "testcase", classname=xml_text(file), name=xml_text(result.name) or "read")
             for line in result.failures:
                 xml.SubElement(case, "error" if result.is_unread else "failure", message=xml_text(line))
     xml.indent(top)

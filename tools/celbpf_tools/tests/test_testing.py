@@ -2,6 +2,9 @@
 
 import io
 import json
+import shutil
+import subprocess
+import unittest
 import xml.etree.ElementTree as xml
 from pathlib import Path
 from typing import Any
@@ -9,6 +12,7 @@ from typing import Any
 from ..asking.gatekeeper import without_file
 from ..asking.policies import whole
 from ..asking.program import Program
+from ..home import DATA
 from ..testing import output
 from ..testing.answers import Answer, Asked, Programs, answer_of, failures
 from ..testing.cases import Broken, read
@@ -176,6 +180,17 @@ class Told(Files):
             {"name": "b", "tests": "1", "failures": "0", "errors": "1"},
         ])
         self.assertEqual(suites[0][1][0].attrib, {"message": "wanted\n<x>"})
+
+    @unittest.skipUnless(shutil.which("xmllint"), "xmllint (Debian's libxml2-utils) is not installed")
+    def test_junit_by_its_schema(self) -> None:
+        strange = "a\x01\x1b[31m \ud800 ]]> & <b> \"c\" 'd'\r\n"
+        results = [*self.RESULTS, Result(strange, strange, [strange]), Result(strange, "", [strange], True)]
+        for place, given in enumerate((results, [])):
+            path = self.folder / f"{place}.xml"
+            output.junit(given, str(path))
+            words = ["xmllint", "--noout", "--schema", str(DATA / "vapctl" / "junit.xsd"), str(path)]
+            ran = subprocess.run(words, capture_output=True, text=True, check=False)
+            self.assertEqual((ran.returncode, ran.stderr), (0, f"{path} validates\n"))
 
     def test_coverage_questions(self) -> None:
         policy = whole({"validations": [{"expression": "a.all(x, x ? y : z)"}]})
