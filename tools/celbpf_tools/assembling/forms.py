@@ -5,7 +5,8 @@ HELPER = "helper"
 # what is expected where an operand of a kind is
 EXPECTED = {
     REGISTER: "a register, r0 to r10,", IMMEDIATE: "a number", VALUE: "a register or a number", TARGET: "a label or an offset",
-    FAR: "a label or an offset", HELPER: "the number or the name of a helper", MEMORY: "an address such as [r1+8]", WIDE: "a number, or the name of a constant,",
+    FAR: "a label or an offset", HELPER: "the number or the name of a helper", MEMORY: "an address such as [r1+8]",
+    WIDE: "a number, or the name of a constant,",
 }
 ARITHMETIC = ("add", "sub", "mul", "div", "sdiv", "or", "and", "lsh", "rsh", "mod", "smod", "xor", "mov", "arsh")
 COMPARISONS = ("jeq", "jgt", "jge", "jset", "jne", "jsgt", "jsge", "jlt", "jle", "jslt", "jsle")
@@ -15,8 +16,8 @@ SIZES = ("b", "h", "w", "dw")
 WIDTHS = ("32", "64")
 # the helpers by their numbers from 1 on, as docs/HELPERS.md names them
 HELPERS = (
-    "kind", "int_of", "int_new", "text_const", "field", "has", "index", "size", "equal", "less", "join", "starts", "ends", "contains", "member",
-    "list_new", "push", "map_new", "put", "item", "count", "text_of_int", "not",
+    "kind", "int_of", "int_new", "text_const", "field", "has", "index", "size", "equal", "less", "join", "starts", "ends", "contains",
+    "member", "list_new", "push", "map_new", "put", "item", "count", "text_of_int", "not",
 )
 
 

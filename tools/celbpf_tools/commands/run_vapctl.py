@@ -4,7 +4,8 @@ usage: tools/run-vapctl [--quick|PROGRAM GATEKEEPER] [TABLE..]
 
 The tables are the files of tools/data/run-vapctl, worked by hand (`celbpf_tools/tests/vapctl_tables.py` has their lines).
 Each example's reviews are then checked as manifests, whose outcome is that of the response beside them; the findings of
-fifty files of manifests, and for some what does not match, are those of an evaluator written apart; a thousand
+fifty files of manifests, and for some what does not match, are those of an evaluator written apart; their reports in
+each form are valid by their schemas, those of SARIF and JUnit if jsonschema and xmllint are installed; a thousand
 Deployments are audited, whose numbers are counted here too; and each subcommand reads the same broken inputs, on which it
 ends with a status of its own and without a traceback.
 """
@@ -28,6 +29,7 @@ from ..entry import usage_of
 from ..home import DATA, EXAMPLES, ROOT
 from ..tests.vapctl_broken import INPUTS, commands
 from ..tests.vapctl_corpus import Corpus, Finding
+from ..tests.vapctl_schemas import SCHEMAS, junit_faults
 from ..tests.vapctl_tables import compared, tables_of
 from ..vapctl.commands import WHATS, module_of
 from ..vapctl.main import main as main_of_vapctl
@@ -151,6 +153,21 @@ def run_corpus(runs: Runs, folder: Path) -> None:
         runs.tell(f"the corpus: {name}", found[name] == each, f"{found[name]}\nand not {each}")
 
 
+def run_forms(runs: Runs, folder: Path) -> None:
+    """The reports of the manifests, and of the tests of the examples, by their schemas."""
+    words = [word for one in POLICIES for word in ("--policy", one)]
+    files = {form: folder / f"report.{form}" for form in SCHEMAS}
+    forms = [word for form, file in files.items() for word in ("-o", f"{form}={file}")]
+    for command in ("check", "audit"):
+        status, said = forked([command, *words, *(CORPUS / name for name in ("manifests", "corpus")), *forms], b"", folder)
+        for form, valid in SCHEMAS.items():
+            faults = valid(files[form]) if status == 3 else [said]
+            runs.tell(f"{command} -o {form} by its schema", not faults, "\n".join(faults[:10]))
+    status, said = forked(["test", EXAMPLES, "-o", f"junit={files['junit']}"], b"", folder)
+    faults = junit_faults(files["junit"]) if status == 0 else [said]
+    runs.tell("test -o junit by its schema", not faults, "\n".join(faults[:10]))
+
+
 def run_why(runs: Runs, folder: Path) -> None:
     """Some of the manifests, of which `why` names the policies and bindings that do not match."""
     words = [word for one in POLICIES for word in ("--policy", one)]
@@ -222,6 +239,7 @@ def main() -> int:
         if not chosen:
             run_examples(runs, folder)
             run_corpus(runs, folder)
+            run_forms(runs, folder)
             run_why(runs, folder)
             run_audit(runs, folder)
             (folder / "broken").mkdir()

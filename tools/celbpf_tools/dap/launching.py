@@ -26,7 +26,8 @@ PART, PIECE, INSTRUCTION = "part", "expression", "instruction"
 DOCUMENTS = ("review", "namespace", "params")
 # the keys of a launch
 KEYS = (
-    "image", "policy", *DOCUMENTS, "object", "listing", "program", "gatekeeper", "cwd", "noDebug", "stopOnEntry", "stepBy", "profile", "translated",
+    "image", "policy", *DOCUMENTS, "object", "listing", "program", "gatekeeper", "cwd", "noDebug", "stopOnEntry", "stepBy", "profile",
+    "translated",
 )
 # what clients add for themselves, beside keys that begin with two underscores
 OF_CLIENTS = ("name", "type", "request", "preLaunchTask", "postDebugTask", "presentation", "internalConsoleOptions", "debugServer")

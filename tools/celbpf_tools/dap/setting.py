@@ -185,7 +185,10 @@ class Setting:
 
     def functions(self, given: Arguments) -> Optional[dict[str, Any]]:
         """Replaces the breakpoints on parts of the policy."""
-        return self.asked((FUNCTION, ""), [wished(one, lambda one: {"name": one.needed_text("name")}) for one in given.parts("breakpoints")])
+        def read(one: Arguments) -> dict[str, Any]:
+            return {"name": one.needed_text("name")}
+
+        return self.asked((FUNCTION, ""), [wished(one, read) for one in given.parts("breakpoints")])
 
     def exceptions(self, given: Arguments) -> Optional[dict[str, Any]]:
         """Replaces the filters: whether a session stops at a fault."""

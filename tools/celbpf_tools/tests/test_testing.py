@@ -185,7 +185,8 @@ class Told(Files):
     def test_junit_by_its_schema(self) -> None:
         strange = "a\x01\x1b[31m \ud800 ]]> & <b> \"c\" 'd'\r\n"
         results = [*self.RESULTS, Result(strange, strange, [strange]), Result(strange, "", [strange], True)]
-        for place, given in enumerate((results, [])):
+        reports: list[list[Result]] = [results, []]
+        for place, given in enumerate(reports):
             path = self.folder / f"{place}.xml"
             output.junit(given, str(path))
             words = ["xmllint", "--noout", "--schema", str(DATA / "vapctl" / "junit.xsd"), str(path)]

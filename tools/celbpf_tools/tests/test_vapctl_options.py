@@ -3,6 +3,7 @@
 import argparse
 import re
 import unittest
+from typing import Any
 
 from ..home import DATA
 from ..vapctl.commands import WHATS, module_of
@@ -24,7 +25,8 @@ def runs() -> dict[str, list[str]]:
 
 def forms_of(action: argparse.Action) -> list[str]:
     """What a run of an option may look like: the option, with each of its choices or output forms."""
-    values = [*(action.choices or ()), *(action.type.names if isinstance(action.type, FormWord) else ())]
+    kind: Any = action.type
+    values = [*(action.choices or ()), *(kind.names if isinstance(kind, FormWord) else ())]
     names = "|".join(map(re.escape, action.option_strings))
     return [rf"(?<!\S)(?:{names})[ =]{value}(?![\w-])" for value in values] or [rf"(?<!\S)(?:{names})(?![\w-])"]
 

@@ -50,7 +50,7 @@ POLICIES: list[tuple[dict[str, Any], list[str]]] = [
     ({"matchConstraints": RULES, "paramKind": {"apiVersion": "v1", "kind": ""}}, ["paramKind.kind: Required value"]),
     ({"matchConstraints": RULES, "paramKind": {"apiVersion": "v1", "kind": "ConfigMap", "name": "a"}}, ["paramKind.name: there is no such field"]),
 ]
-DENY = {"policyName": "p", "validationActions": ["Deny"]}
+DENY: dict[str, Any] = {"policyName": "p", "validationActions": ["Deny"]}
 # specifications of bindings, likewise
 BINDINGS: list[tuple[Any, list[str]]] = [
     (DENY, []),

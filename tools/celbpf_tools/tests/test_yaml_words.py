@@ -47,7 +47,7 @@ class Words(unittest.TestCase):
 
     def test_both_parsers(self) -> None:
         bases = [getattr(documents.yaml_package(), name, None) for name in ("SafeLoader", "CSafeLoader")]
-        for base in filter(None, bases):
+        for base in (one for one in bases if one is not None):
             for text, words in FAULTS:
                 with self.subTest(text, base=base.__name__):
                     self.assertEqual(self.said(text, documents.loader(base)), words)

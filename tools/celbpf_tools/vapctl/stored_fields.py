@@ -145,8 +145,8 @@ def of_expression(value: Any, path: Path) -> Iterator[Refusal]:
     elif operator in PRESENCES and values:
         yield Refusal((*path, "values"), "Forbidden: may not be specified when `operator` is 'Exists' or 'DoesNotExist'")
     else:
-        wrong = (place for place, one in enumerate(values or ()) if not is_value(one))
-        yield from (Refusal((*path, "values", place), invalid(values[place], "it is no value of a label")) for place in wrong)
+        wrong = ((place, one) for place, one in enumerate(values or ()) if not is_value(one))
+        yield from (Refusal((*path, "values", place), invalid(one, "it is no value of a label")) for place, one in wrong)
 
 
 def is_key(key: str) -> bool:

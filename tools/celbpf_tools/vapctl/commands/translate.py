@@ -15,8 +15,8 @@ from ..wide_linting import wide_faults
 from .compile import one_policy, refuse
 
 MORE = """It prints the policy of the profile (docs/CEL.md) that is compiled for a policy as clusters store them, as JSON, which
-`celbpf` reads. It has the policy's name, and as annotations the text of each part as its author wrote it. If the policy is refused, all refusals
-are shown as `vapctl lint` shows them, and nothing is printed."""
+`celbpf` reads. It has the policy's name, and as annotations the text of each part as its author wrote it. If the policy is
+refused, all refusals are shown as `vapctl lint` shows them, and nothing is printed."""
 
 
 def words(parser: argparse.ArgumentParser) -> None:

@@ -22,9 +22,9 @@ from ..statuses import BAD, GOOD, REFUSED, WORDS
 
 MORE = """Of one policy it prints each part with its value, the parts of what is false with theirs, and what to change. The policy is
 asked whether or not its matchConstraints match. Expressions are shown as their author wrote them; --translated also shows
-each as it is compiled. With --case the only argument is a test file, or a folder of them, and the case has its policy and review. With --cluster
-or --policy the only argument is the review: it prints what each policy does under each of its bindings, and for those that
-do not match which rule or selector keeps the request out."""
+each as it is compiled. With --case the only argument is a test file, or a folder of them, and the case has its policy and
+review. With --cluster or --policy the only argument is the review: it prints what each policy does under each of its
+bindings, and for those that do not match which rule or selector keeps the request out."""
 STATUSES = {ALLOWED: GOOD, DENIED: BAD}
 
 
