@@ -168,5 +168,5 @@ def one_in(path: Path) -> Any:
     """The one document of a file."""
     found = all_in(path)
     if len(found) != 1:
-        raise Unreadable(f"{path}: {len(found)} documents, and not one")
+        raise Unreadable(f"{path}: {len(found)} documents, and one is expected" if found else f"{path}: no document is in it")
     return found[0]

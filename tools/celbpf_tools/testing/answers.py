@@ -13,6 +13,7 @@ from ..asking.program import NotAnswered, Program
 from ..asking.translating import Translating
 from ..documents import Unreadable, json_fault, one_in
 from ..manifests.sending import object_sent, with_name_label
+from ..vapctl.refusals import meaning_of
 from .cases import Case
 from .reviews import compact, text_of_review
 
@@ -60,7 +61,9 @@ def failures(case: Case, answer: Answer) -> list[Any]:
 
 
 def told(answer: Answer) -> str:
-    """An answer in words, with its message."""
+    """An answer in words, with its message, or with what a refusal means."""
+    if meaning := meaning_of(answer.refusal) if answer.refusal else "":
+        return f"{answer.outcome}: {meaning}"
     return f"{answer.outcome}: {answer.message!r}" if answer.message else answer.outcome
 
 

@@ -79,4 +79,5 @@ class Yaml(Files):
     def test_several_documents(self) -> None:
         path = self.file("a.yaml", "a: 1\n---\nb: 2\n---\n")
         self.assertEqual(documents.all_in(path), [{"a": 1}, {"b": 2}])
-        self.assertEqual(self.refused(path), "a.yaml: 2 documents, and not one")
+        self.assertEqual(self.refused(path), "a.yaml: 2 documents, and one is expected")
+        self.assertEqual(self.refused(self.file("b.yaml", "# nothing\n---\n")), "b.yaml: no document is in it")

@@ -109,14 +109,18 @@ class Wanted(Files):
         return read(self.file("tests.json", '{"policy": "p", "cases": [{"object": {}, %s}]}' % wanted)).cases[0]
 
     def test_what_is_wanted_of_an_answer(self) -> None:
-        denied, refused = Answer(False, "too many"), Answer(refusal="N2")
+        denied, refused, part = Answer(False, "too many"), Answer(refusal="N2"), Answer(refusal="K6 validation 0 W5 url")
+        told = "refused with N2: the review is refused: it is none, or has a number that is no 64-bit int, or is too large"
         for wanted, answer, lines in [
             ('"expect": "denied"', denied, []),
             ('"expect": "allowed"', denied, ["wanted allowed, got denied: 'too many'"]),
             ('"expect": "denied", "contains": "many"', denied, []),
             ('"expect": "denied", "message": "many"', denied, ["wanted the message 'many', got 'too many'"]),
-            ('"expect": "denied"', refused, ["wanted denied, got refused with N2"]),
-            ('"refusal": "N3"', refused, ["wanted refused with N3, got refused with N2"]),
+            ('"expect": "denied"', refused, [f"wanted denied, got {told}"]),
+            ('"expect": "denied"', part,
+             ["wanted denied, got refused with K6 validation 0 W5 url: validation 0: it has a name or a form that is not supported"]),
+            ('"expect": "denied"', Answer(refusal="X"), ["wanted denied, got refused with X"]),
+            ('"refusal": "N3"', refused, [f"wanted refused with N3, got {told}"]),
             ('"refusal": "N2"', Answer(True), ["wanted refused with N2, got allowed"]),
         ]:
             with self.subTest(wanted):

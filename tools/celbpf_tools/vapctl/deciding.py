@@ -8,7 +8,7 @@ all findings, since a binding is not configured or a policy does not decide, eac
 import json
 import re
 from pathlib import Path
-from typing import Any, Iterator, Optional
+from typing import Any, Iterator
 
 from ..asking.gatekeeper import REFUSAL, without_file
 from ..manifests.kinds import Resources
@@ -18,7 +18,6 @@ from .inputs import Thing
 from .refusals import NO_KIND, why_blocked
 from .requests import why_no_ints
 from .results import ALLOWED, AUDIT, DENIED, DENY, ERROR, UNDECIDED, WARN, Finding
-from .rules import Refusal
 from .stored_fields import field_refusals
 
 WARNING = re.compile(r"Validation failed for ValidatingAdmissionPolicy '(.*?)' with binding '(.*?)': (.*)", re.DOTALL)
@@ -57,7 +56,7 @@ class Deciding:
         ran = self.gate.started(self.file)
         lines = ran.stderr.splitlines()
         if ran.returncode:
-            raise NoState([self.fault(lines[-1] if lines else f"the gatekeeper ended with status {ran.returncode}")])
+            raise NoState(self.faults(lines[-1] if lines else f"the gatekeeper ended with status {ran.returncode}"))
         for found in filter(None, map(LISTED.match, lines)):
             self.policies.append(found[1])
             if found[2]:
@@ -73,20 +72,20 @@ class Deciding:
         what = f"{kind['kind']}, the kind of its params"
         return f"no {what}, is among the inputs: give --params" if self.state.is_given else f"the state has no {what}"
 
-    def fault(self, line: str) -> str:
+    def faults(self, line: str) -> list[str]:
         """Why the state is refused, with the place of the object that the line names."""
         code, _, what = without_file(line, [self.file]).removeprefix(REFUSAL).partition(" ")
         name, _, part = what.partition(": ")
         why = CAUSES.get(code, line)
         if code == "C2" and name.isdigit() and int(name) < len(self.state.things):
             thing = self.state.things[int(name)]
-            return f"{thing.place}: {thing.title}: {why} ({code})"
+            return [f"{thing.place}: {thing.title}: {why} ({code})"]
         for thing in {"C5": self.state.bindings, "C6": self.state.policies}.get(code, ()):
             if thing.name == name:
-                found = first_in(thing, part)
-                told = f"{found.key}: {found.meaning}" if found else f"{why}: {part or self.cause(thing)}"
-                return f"{thing.place}: {thing.title}: {told} ({code})"
-        return f"{why} ({code})" if code in CAUSES else line
+                found = [f"{one.key}: {one.meaning}" for one in field_refusals(thing, True)]
+                told = found or [f"{why}: {part or self.cause(thing)}"]
+                return [f"{thing.place}: {thing.title}: {one} ({code})" for one in told]
+        return [f"{why} ({code})" if code in CAUSES else line]
 
     def cause(self, thing: Thing) -> str:
         """The field without which a policy is stored, or all that may be, if it is not one alone."""
@@ -181,12 +180,6 @@ class Deciding:
         """The most severe of a binding's actions."""
         given = self.actions.get((policy, binding), [])
         return DENY if "Deny" in given else WARN if "Warn" in given else AUDIT if "Audit" in given else DENY
-
-
-def first_in(thing: Thing, part: str) -> Optional[Refusal]:
-    """The first refusal of a policy or a binding, of a binding in a part, such as `spec.paramRef`, if that is told."""
-    found = (one for one in field_refusals(thing, True) if not part or f"{one.key}.".startswith((f"{part}.", f"{part}[")))
-    return next(found, None)
 
 
 def repaired(thing: Thing, key: str, value: Any) -> Thing:

@@ -10,7 +10,7 @@ from ..entry import Stop
 from ..manifests.sending import object_sent
 from .checking import add_old, add_request_words, refuse_user, resources_of, stop, stop_at, tell
 from .cluster import POLICY, as_stored, is_of
-from .inputs import Inputs, Thing, Trouble
+from .inputs import STDIN, Inputs, Thing, Trouble
 from .no_manifests import REVIEW
 from .requests import OPERATIONS, Asked, NoReview, Reviews
 from .statuses import REFUSED
@@ -33,13 +33,14 @@ def policy_text(thing: Thing) -> str:
     return json.dumps(kept)
 
 
-def named(things: list[Thing], name: Optional[str], what: str, option: str) -> Thing:
-    """The one of these objects, or the one of this name, which may follow its kind and a slash."""
+def named(things: list[Thing], name: Optional[str], what: str, option: str, file: str = "") -> Thing:
+    """The one of these objects of a file, or the one of this name, which may follow its kind and a slash."""
     chosen = [one for one in things if name is None or name in (one.name, f"{one.kind}/{one.name}")]
     if len(chosen) == 1:
         return chosen[0]
     if not things:
-        raise Stop(f"no {what} is among the inputs", REFUSED)
+        where = "in standard input" if file == STDIN else f"in {file}" if file else "among the inputs"
+        raise Stop(f"no {what} is {where}", REFUSED)
     listed = ", ".join(f"{one.kind}/{one.name}" if option != "--name" else one.name for one in things[:MOST_NAMES])
     found = f"{listed}{', ..' if len(things) > MOST_NAMES else ''}"
     if name is None:
@@ -81,8 +82,8 @@ class Decision:
         refuse_user(given)
         self.given, self.folder, self.inputs = given, folder, Inputs()
         policies = [one for one in self.read(given.policy) if is_of(one, POLICY)]
-        self.policy = named(policies, given.name, POLICY, "--name")
-        self.review = named(self.read(given.review), given.object, "object", "--object")
+        self.policy = named(policies, given.name, POLICY, "--name", given.policy)
+        self.review = named(self.read(given.review), given.object, "object", "--object", given.review)
         self.files: dict[str, Optional[str]] = {"policy": self.write("policy.json", policy_text(self.policy)),
                       "review": self.write("review.json", self.review_text())}
         self.shown = [str(self.policy.place), f"{self.review.place} {self.review.title}"]
@@ -105,7 +106,7 @@ class Decision:
 
     def document(self, key: str, file: str) -> str:
         """The file of a namespace or of params."""
-        thing = named(self.read(file), None, key, "")
+        thing = named(self.read(file), None, key, "", file)
         self.shown.append(f"{key} {thing.place}")
         return self.write(f"{key}.json", json.dumps(object_sent(thing.value)))
 

@@ -37,6 +37,12 @@ OTHERS = {
 }
 
 
+def meaning_of(refusal: str) -> str:
+    """What a refusal means, without its code; empty if it is not known."""
+    words = OTHERS[refusal] if refusal in OTHERS else words_of(refusal).removesuffix(NAMES_KEY)
+    return words.rpartition(" (")[0] if words.endswith(")") else "" if words == refusal else words
+
+
 def words_of_refusal(line: str) -> str:
     """What `celbpf` says on standard error, in words."""
     if line.startswith(("N1 ", "K", "G")):

@@ -61,7 +61,7 @@ def one_policy(inputs: Inputs, given: argparse.Namespace) -> Thing:
     """The policy of an input, which has to be read whole."""
     things = inputs.things([given.policy])
     stop_at(inputs.troubles)
-    return named([thing for thing in things if thing.kind == POLICY], given.name, POLICY, "--name")
+    return named([thing for thing in things if thing.kind == POLICY], given.name, POLICY, "--name", given.policy)
 
 
 def refuse(shown: Iterator[Fault]) -> NoReturn:

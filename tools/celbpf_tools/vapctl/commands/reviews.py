@@ -48,10 +48,10 @@ class Asked:
     def __init__(self, given: argparse.Namespace, folder: Path):
         self.folder, self.inputs = folder, Inputs()
         policies = [one for one in self.read(given.policy) if is_of(one, POLICY)]
-        self.words = ["--policy", self.written("policy", policy_text(named(policies, given.name, POLICY, "--name")))]
+        self.words = ["--policy", self.written("policy", policy_text(named(policies, given.name, POLICY, "--name", given.policy)))]
         for key, file in (("namespace", given.namespace_object), ("params", given.params)):
             if file:
-                text = json.dumps(object_sent(named(self.read(file), None, key, "").value))
+                text = json.dumps(object_sent(named(self.read(file), None, key, "", file).value))
                 self.words += [f"--{key}", self.written(key, text)]
         self.words += ["--profile"] * given.profile
         self.inputs.is_taken = is_review
