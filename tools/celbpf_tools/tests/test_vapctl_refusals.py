@@ -22,7 +22,9 @@ class Words(unittest.TestCase):
                 self.assertEqual(why_blocked(f"C7 {refusal}"), due)
 
     def test_a_field_that_is_not_read(self) -> None:
-        self.assertTrue(words_of("K3 auditAnnotations").endswith("(K3 auditAnnotations); `vapctl lint` names the key"))
+        self.assertTrue(words_of("K3").endswith("(K3); `vapctl lint` names the key"))
+        told = "audit annotations are not supported yet: leave them out, and their values are not computed (K3)"
+        self.assertEqual(words_of("K3 auditAnnotations"), told)
 
     def test_refusals_of_policies(self) -> None:
         due = "the policy is refused: validation 1: it has a name or a form that is not supported (W5 url); `vapctl lint` shows all refusals"

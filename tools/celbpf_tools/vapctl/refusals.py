@@ -4,6 +4,7 @@ from ..asking.refused import MEANINGS
 
 NO_KIND = "the kind of its params is not among the inputs: give a definition of it, or an object"
 NO_NAMESPACE = "a match condition reads namespaceObject, which is null there in a cluster: write dyn(null)"
+NO_ANNOTATIONS = "audit annotations are not supported yet: leave them out, and their values are not computed"
 NAMES_KEY = "; `vapctl lint` names the key"
 # the number of words of a refusal of an expression before its place, as in `K6 validation 0 P4 at 7`
 EXPRESSION = 4
@@ -18,6 +19,8 @@ def words_of(refusal: str) -> str:
         name = f" {more[0]}" if more and more[0] != "at" else ""
         after = f" at byte {more[-1]}" if "at" in more else ""
         return f"{where}: {MEANINGS.get(cause, 'it is refused')}{after} ({cause}{name})"
+    if parts == ["K3", "auditAnnotations"]:
+        return f"{NO_ANNOTATIONS} (K3)"
     key = NAMES_KEY if parts[:1] == ["K3"] else ""
     return f"{MEANINGS[parts[0]]} ({refusal}){key}" if parts and parts[0] in MEANINGS else refusal
 

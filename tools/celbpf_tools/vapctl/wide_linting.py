@@ -13,6 +13,7 @@ from .inputs import Thing
 from .linting import Fault, path_of, position_of, without, without_key
 from .one_decision import policy_text
 from .positions import Marks, Path
+from .refusals import NO_ANNOTATIONS
 
 # of the whole policy, so that no other part is to blame
 OF_SIZE = ("G3", "G4")
@@ -28,7 +29,7 @@ class WideFault(Fault):
         if self.refused.part:
             return self.refused.meaning
         if ANNOTATIONS in self.refused.key:
-            return "audit annotations are not supported yet: leave them out, and their values are not computed"
+            return NO_ANNOTATIONS
         return super().meaning
 
 
