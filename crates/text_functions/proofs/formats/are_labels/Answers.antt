@@ -1,0 +1,13 @@
+-- Proofs of `formats::are_labels`: the result meets the contract.
+use Rattle.std.proofs.Common.{rules, ◌==◌}
+use Rattle.std.proofs.lemmas.Iterator.Search.{all_from_yields_List}
+use Rattle.std.proofs.lemmas.Iterator.Splits.{YieldsList-from_slice_split}
+use borrow.Author.Tests.{tests}
+use Rattle.text_functions.specs.Formats as specs
+use Rattle.text_functions.proofs.formats.are_labels.Goals as goal
+
+pub returns : goal.returns
+returns c =
+    all_from_yields_List specs.is_label _ _ _ c.all.ensures.ran
+    (YieldsList-from_slice_split _ (λ b. b == 46) c.args.text.now c.split.ensures.rest c.split.ensures.done c.split.ensures.closure (λ x b q k. search (rules, tests)))
+    (λ x b q k. search (rules, tests))
