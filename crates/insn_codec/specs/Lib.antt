@@ -8,6 +8,7 @@ pub mod Candidate
 pub mod Spelled
 pub mod Mnemonics
 pub mod Lines
+pub mod LineOperands
 pub mod Statements
 pub mod Laws
 pub mod LineRows

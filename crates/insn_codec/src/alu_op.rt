@@ -94,13 +94,12 @@ impl AluOp {
             _ => 0,
         }
     }
-}
 
-impl fmt::Display for AluOp {
-    ghost output = { λ x. Some (alu_text x) };
-
-    fn fmt<W: fmt::Write>(&self, f: &mut fmt::Formatter<W>) -> fmt::Result {
-        let name = match self {
+    /// The name in a mnemonic.
+    pub(crate) fn name(self) -> &'static str
+        ensures { result.now ≡ alu_text self }
+    {
+        match self {
             AluOp::Add => "add",
             AluOp::Sub => "sub",
             AluOp::Mul => "mul",
@@ -115,7 +114,15 @@ impl fmt::Display for AluOp {
             AluOp::Xor => "xor",
             AluOp::Mov => "mov",
             AluOp::Arsh => "arsh",
-        };
+        }
+    }
+}
+
+impl fmt::Display for AluOp {
+    ghost output = { λ x. Some (alu_text x) };
+
+    fn fmt<W: fmt::Write>(&self, f: &mut fmt::Formatter<W>) -> fmt::Result {
+        let name = self.name();
         write!(f, "{name}")
     }
 }

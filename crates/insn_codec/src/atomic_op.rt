@@ -59,13 +59,12 @@ impl AtomicOp {
     {
         self as i32
     }
-}
 
-impl fmt::Display for AtomicOp {
-    ghost output = { λ x. Some (atomic_text x) };
-
-    fn fmt<W: fmt::Write>(&self, f: &mut fmt::Formatter<W>) -> fmt::Result {
-        let name = match self {
+    /// The name in a mnemonic.
+    pub(crate) fn name(self) -> &'static str
+        ensures { result.now ≡ atomic_text self }
+    {
+        match self {
             AtomicOp::Add => "add",
             AtomicOp::Or => "or",
             AtomicOp::And => "and",
@@ -76,7 +75,15 @@ impl fmt::Display for AtomicOp {
             AtomicOp::FetchXor => "fetch_xor",
             AtomicOp::Exchange => "xchg",
             AtomicOp::CompareExchange => "cmpxchg",
-        };
+        }
+    }
+}
+
+impl fmt::Display for AtomicOp {
+    ghost output = { λ x. Some (atomic_text x) };
+
+    fn fmt<W: fmt::Write>(&self, f: &mut fmt::Formatter<W>) -> fmt::Result {
+        let name = self.name();
         write!(f, "{name}")
     }
 }

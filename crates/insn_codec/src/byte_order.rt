@@ -37,16 +37,24 @@ impl ByteOrder {
     {
         self as u8
     }
+
+    /// The name in a mnemonic.
+    pub(crate) fn name(self) -> &'static str
+        ensures { result.now ≡ order_text self }
+    {
+        match self {
+            ByteOrder::Little => "le",
+            ByteOrder::Big => "be",
+            ByteOrder::Swap => "swap",
+        }
+    }
 }
 
 impl fmt::Display for ByteOrder {
     ghost output = { λ x. Some (order_text x) };
 
     fn fmt<W: fmt::Write>(&self, f: &mut fmt::Formatter<W>) -> fmt::Result {
-        match self {
-            ByteOrder::Little => write!(f, "le"),
-            ByteOrder::Big => write!(f, "be"),
-            ByteOrder::Swap => write!(f, "swap"),
-        }
+        let name = self.name();
+        write!(f, "{name}")
     }
 }

@@ -61,13 +61,12 @@ impl Comparison {
     {
         self as u8
     }
-}
 
-impl fmt::Display for Comparison {
-    ghost output = { λ x. Some (comparison_text x) };
-
-    fn fmt<W: fmt::Write>(&self, f: &mut fmt::Formatter<W>) -> fmt::Result {
-        let name = match self {
+    /// The name in a mnemonic.
+    pub(crate) fn name(self) -> &'static str
+        ensures { result.now ≡ comparison_text self }
+    {
+        match self {
             Comparison::Eq => "jeq",
             Comparison::Gt => "jgt",
             Comparison::Ge => "jge",
@@ -79,7 +78,15 @@ impl fmt::Display for Comparison {
             Comparison::Le => "jle",
             Comparison::Slt => "jslt",
             Comparison::Sle => "jsle",
-        };
+        }
+    }
+}
+
+impl fmt::Display for Comparison {
+    ghost output = { λ x. Some (comparison_text x) };
+
+    fn fmt<W: fmt::Write>(&self, f: &mut fmt::Formatter<W>) -> fmt::Result {
+        let name = self.name();
         write!(f, "{name}")
     }
 }

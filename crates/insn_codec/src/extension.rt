@@ -58,18 +58,26 @@ impl Extension {
             Extension::From8To64 | Extension::From16To64 | Extension::From32To64 => Width::W64,
         }
     }
+
+    /// The bits that it reads and fills, as in a mnemonic.
+    pub(crate) fn name(self) -> &'static str
+        ensures { result.now ≡ extension_text self }
+    {
+        match self {
+            Extension::From8To32 => "8to32",
+            Extension::From16To32 => "16to32",
+            Extension::From8To64 => "8to64",
+            Extension::From16To64 => "16to64",
+            Extension::From32To64 => "32to64",
+        }
+    }
 }
 
 impl fmt::Display for Extension {
     ghost output = { λ x. Some (extension_text x) };
 
     fn fmt<W: fmt::Write>(&self, f: &mut fmt::Formatter<W>) -> fmt::Result {
-        match self {
-            Extension::From8To32 => write!(f, "8to32"),
-            Extension::From16To32 => write!(f, "16to32"),
-            Extension::From8To64 => write!(f, "8to64"),
-            Extension::From16To64 => write!(f, "16to64"),
-            Extension::From32To64 => write!(f, "32to64"),
-        }
+        let name = self.name();
+        write!(f, "{name}")
     }
 }

@@ -1,13 +1,16 @@
 //! The instructions of the machine.
 
 ghost use Rattle.std.specs.Prelude.{◌≡◌, ◌*◌, length, Some};
-ghost use Rattle.insn_codec.specs.Lines.{line_text, mnemonic_of};
+ghost use Rattle.insn_codec.specs.Lines.{line_text, mnemonic_of, operands_of, register_text};
+ghost use Rattle.insn_codec.specs.LineOperands.{operand_shown, operand_texts};
 
 use crate::alu_op::AluOp;
 use crate::atomic_op::AtomicOp;
 use crate::byte_order::ByteOrder;
 use crate::comparison::Comparison;
 use crate::extension::Extension;
+use crate::line_operand::LineOperand;
+use crate::line_operands::LineOperands;
 use crate::mnemonic::Mnemonic;
 use crate::operand::Operand;
 use crate::register::Register;
@@ -15,7 +18,6 @@ use crate::signed_size::SignedSize;
 use crate::size::Size;
 use crate::slot::Slot;
 use crate::swap_width::SwapWidth;
-use crate::texts::{AddressText, NumberText, OffsetText, WideText};
 use crate::width::Width;
 use std::fmt;
 
@@ -243,6 +245,72 @@ impl Insn {
         }
     }
 
+    /// The operands of the instruction's line.
+    fn line_operands(self) -> LineOperands
+        ensures { operand_texts result ≡ operands_of self }
+    {
+        match self {
+            Insn::Alu { dst, operand, .. } => LineOperands::Two(
+                named(dst),
+                LineOperand::Operand(operand),
+            ),
+            Insn::Neg { dst, .. } | Insn::ByteSwap { dst, .. } => LineOperands::One(named(dst)),
+            Insn::SignExtend { dst, src, .. } => LineOperands::Two(named(dst), named(src)),
+            Insn::Jump { offset } => LineOperands::One(LineOperand::Offset(offset as i32)),
+            Insn::JumpLong { offset } => LineOperands::One(LineOperand::Offset(offset)),
+            Insn::CallLocal { offset } => LineOperands::One(LineOperand::Offset(offset)),
+            Insn::Branch {
+                dst,
+                operand,
+                offset,
+                ..
+            } => LineOperands::Three(
+                named(dst),
+                LineOperand::Operand(operand),
+                LineOperand::Offset(offset as i32),
+            ),
+            Insn::Call { helper } => LineOperands::One(LineOperand::Operand(Operand::Imm(helper))),
+            Insn::Exit => LineOperands::Zero,
+            Insn::Load {
+                dst,
+                src,
+                offset,
+                ..
+            } => LineOperands::Two(named(dst), LineOperand::Place(src, offset)),
+            Insn::LoadSigned {
+                dst,
+                src,
+                offset,
+                ..
+            } => LineOperands::Two(named(dst), LineOperand::Place(src, offset)),
+            Insn::StoreImm {
+                dst,
+                offset,
+                imm,
+                ..
+            } => LineOperands::Two(
+                LineOperand::Place(dst, offset),
+                LineOperand::Operand(Operand::Imm(imm)),
+            ),
+            Insn::Store {
+                dst,
+                offset,
+                src,
+                ..
+            } => LineOperands::Two(LineOperand::Place(dst, offset), named(src)),
+            Insn::Atomic {
+                dst,
+                offset,
+                src,
+                ..
+            } => LineOperands::Two(LineOperand::Place(dst, offset), named(src)),
+            Insn::LoadWide { dst, value } => LineOperands::Two(
+                named(dst),
+                LineOperand::Wide(value),
+            ),
+        }
+    }
+
     /// The numbers of an instruction fit their fields, as the laws on instructions require.
     pub fn in_range(self)
         ensures { IsInsn self }
@@ -255,86 +323,20 @@ impl fmt::Display for Insn {
 
     fn fmt<W: fmt::Write>(&self, f: &mut fmt::Formatter<W>) -> fmt::Result {
         let mnemonic = self.mnemonic();
-        match *self {
-            Insn::Alu { dst, operand, .. } => write!(f, "{mnemonic} {dst}, {operand}"),
-            Insn::Neg { dst, .. } | Insn::ByteSwap { dst, .. } => write!(f, "{mnemonic} {dst}"),
-            Insn::SignExtend { dst, src, .. } => write!(f, "{mnemonic} {dst}, {src}"),
-            Insn::Jump { offset } => {
-                let offset = OffsetText(offset as i32);
-                write!(f, "{mnemonic} {offset}")
-            }
-            Insn::JumpLong { offset } => {
-                let offset = OffsetText(offset);
-                write!(f, "{mnemonic} {offset}")
-            }
-            Insn::CallLocal { offset } => {
-                let offset = OffsetText(offset);
-                write!(f, "{mnemonic} {offset}")
-            }
-            Insn::Branch {
-                dst,
-                operand,
-                offset,
-                ..
-            } => {
-                let offset = OffsetText(offset as i32);
-                write!(f, "{mnemonic} {dst}, {operand}, {offset}")
-            }
-            Insn::Call { helper } => {
-                let helper = NumberText(helper);
-                write!(f, "{mnemonic} {helper}")
-            }
-            Insn::Exit => write!(f, "{mnemonic}"),
-            Insn::Load {
-                dst,
-                src,
-                offset,
-                ..
-            } => {
-                let address = AddressText(src, offset);
-                write!(f, "{mnemonic} {dst}, [{address}]")
-            }
-            Insn::LoadSigned {
-                dst,
-                src,
-                offset,
-                ..
-            } => {
-                let address = AddressText(src, offset);
-                write!(f, "{mnemonic} {dst}, [{address}]")
-            }
-            Insn::StoreImm {
-                dst,
-                offset,
-                imm,
-                ..
-            } => {
-                let address = AddressText(dst, offset);
-                let imm = NumberText(imm);
-                write!(f, "{mnemonic} [{address}], {imm}")
-            }
-            Insn::Store {
-                dst,
-                offset,
-                src,
-                ..
-            } => {
-                let address = AddressText(dst, offset);
-                write!(f, "{mnemonic} [{address}], {src}")
-            }
-            Insn::Atomic {
-                dst,
-                offset,
-                src,
-                ..
-            } => {
-                let address = AddressText(dst, offset);
-                write!(f, "{mnemonic} [{address}], {src}")
-            }
-            Insn::LoadWide { dst, value } => {
-                let value = WideText(value);
-                write!(f, "{mnemonic} {dst}, {value}")
+        match self.line_operands() {
+            LineOperands::Zero => write!(f, "{mnemonic}"),
+            LineOperands::One(only) => write!(f, "{mnemonic} {only}"),
+            LineOperands::Two(first, second) => write!(f, "{mnemonic} {first}, {second}"),
+            LineOperands::Three(first, second, third) => {
+                write!(f, "{mnemonic} {first}, {second}, {third}")
             }
         }
     }
+}
+
+/// A register's name as an operand.
+fn named(register: Register) -> LineOperand
+    ensures { operand_shown result ≡ register_text register }
+{
+    LineOperand::Operand(Operand::Reg(register))
 }

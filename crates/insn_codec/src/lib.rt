@@ -11,6 +11,8 @@ mod extension;
 mod insn;
 mod laws;
 mod limits;
+mod line_operand;
+mod line_operands;
 mod mnemonic;
 mod operand;
 mod register;

@@ -1,6 +1,6 @@
 //! Mnemonics of a program's text.
 
-ghost use Rattle.std.specs.Prelude.{Some};
+ghost use Rattle.std.specs.Prelude.{◌≡◌, ◌++◌, Some};
 ghost use Rattle.insn_codec.specs.Mnemonics.{mnemonic_text};
 
 use crate::alu_op::AluOp;
@@ -53,28 +53,38 @@ pub enum Mnemonic {
     Slot,
 }
 
+impl Mnemonic {
+    /// The text in three parts: what precedes the operation, the operation, and the width or size.
+    fn parts(self) -> (&'static str, &'static str, &'static str)
+        ensures { result.0.now ++ (result.1.now ++ result.2.now) ≡ mnemonic_text self }
+    {
+        match self {
+            Mnemonic::Alu(op, width) => ("", op.name(), width.name()),
+            Mnemonic::Neg(width) => ("neg", "", width.name()),
+            Mnemonic::SignExtend(extension) => ("movsx", "", extension.name()),
+            Mnemonic::ByteSwap(order, width) => ("", order.name(), width.name()),
+            Mnemonic::Ja => ("ja", "", ""),
+            Mnemonic::JaLong => ("ja32", "", ""),
+            Mnemonic::Branch(comparison, width) => ("", comparison.name(), width.name()),
+            Mnemonic::Call => ("call", "", ""),
+            Mnemonic::CallLocal => ("call_local", "", ""),
+            Mnemonic::Exit => ("exit", "", ""),
+            Mnemonic::Load(size) => ("ldx", "", size.name()),
+            Mnemonic::LoadSigned(size) => ("ldxs", "", size.name()),
+            Mnemonic::StoreImm(size) => ("st", "", size.name()),
+            Mnemonic::Store(size) => ("stx", "", size.name()),
+            Mnemonic::Atomic(op, width) => ("atomic_", op.name(), width.name()),
+            Mnemonic::LoadWide => ("lddw", "", ""),
+            Mnemonic::Slot => (".slot", "", ""),
+        }
+    }
+}
+
 impl fmt::Display for Mnemonic {
     ghost output = { λ x. Some (mnemonic_text x) };
 
     fn fmt<W: fmt::Write>(&self, f: &mut fmt::Formatter<W>) -> fmt::Result {
-        match *self {
-            Mnemonic::Alu(op, width) => write!(f, "{op}{width}"),
-            Mnemonic::Neg(width) => write!(f, "neg{width}"),
-            Mnemonic::SignExtend(extension) => write!(f, "movsx{extension}"),
-            Mnemonic::ByteSwap(order, width) => write!(f, "{order}{width}"),
-            Mnemonic::Ja => write!(f, "ja"),
-            Mnemonic::JaLong => write!(f, "ja32"),
-            Mnemonic::Branch(comparison, width) => write!(f, "{comparison}{width}"),
-            Mnemonic::Call => write!(f, "call"),
-            Mnemonic::CallLocal => write!(f, "call_local"),
-            Mnemonic::Exit => write!(f, "exit"),
-            Mnemonic::Load(size) => write!(f, "ldx{size}"),
-            Mnemonic::LoadSigned(size) => write!(f, "ldxs{size}"),
-            Mnemonic::StoreImm(size) => write!(f, "st{size}"),
-            Mnemonic::Store(size) => write!(f, "stx{size}"),
-            Mnemonic::Atomic(op, width) => write!(f, "atomic_{op}{width}"),
-            Mnemonic::LoadWide => write!(f, "lddw"),
-            Mnemonic::Slot => write!(f, ".slot"),
-        }
+        let (prefix, operation, suffix) = self.parts();
+        write!(f, "{prefix}{operation}{suffix}")
     }
 }

@@ -37,16 +37,24 @@ impl SignedSize {
     {
         self as u8
     }
+
+    /// The letter of a mnemonic.
+    pub(crate) fn name(self) -> &'static str
+        ensures { result.now ≡ signed_size_text self }
+    {
+        match self {
+            SignedSize::B => "b",
+            SignedSize::H => "h",
+            SignedSize::W => "w",
+        }
+    }
 }
 
 impl fmt::Display for SignedSize {
     ghost output = { λ x. Some (signed_size_text x) };
 
     fn fmt<W: fmt::Write>(&self, f: &mut fmt::Formatter<W>) -> fmt::Result {
-        match self {
-            SignedSize::B => write!(f, "b"),
-            SignedSize::H => write!(f, "h"),
-            SignedSize::W => write!(f, "w"),
-        }
+        let name = self.name();
+        write!(f, "{name}")
     }
 }

@@ -40,17 +40,25 @@ impl Size {
     {
         self as u8
     }
+
+    /// The letters of a mnemonic.
+    pub(crate) fn name(self) -> &'static str
+        ensures { result.now ≡ size_text self }
+    {
+        match self {
+            Size::B => "b",
+            Size::H => "h",
+            Size::W => "w",
+            Size::Dw => "dw",
+        }
+    }
 }
 
 impl fmt::Display for Size {
     ghost output = { λ x. Some (size_text x) };
 
     fn fmt<W: fmt::Write>(&self, f: &mut fmt::Formatter<W>) -> fmt::Result {
-        match self {
-            Size::B => write!(f, "b"),
-            Size::H => write!(f, "h"),
-            Size::W => write!(f, "w"),
-            Size::Dw => write!(f, "dw"),
-        }
+        let name = self.name();
+        write!(f, "{name}")
     }
 }

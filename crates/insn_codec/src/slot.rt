@@ -6,7 +6,7 @@ ghost use Rattle.std.specs.Int.{w64, to_le_bytes};
 use crate::register::Register;
 
 /// The fields of one slot of eight bytes (RFC 9669, section 3). `dst` and `src` have four bits each.
-#[derive(Clone, Copy, Debug, PartialEq, Eq)]
+#[derive(Clone, Copy)]
 pub struct Slot {
     pub opcode: u8,
     pub dst: u8,

@@ -37,16 +37,24 @@ impl SwapWidth {
     {
         self as i32
     }
+
+    /// The bits that it orders, as in a mnemonic.
+    pub(crate) fn name(self) -> &'static str
+        ensures { result.now ≡ swap_text self }
+    {
+        match self {
+            SwapWidth::Bits16 => "16",
+            SwapWidth::Bits32 => "32",
+            SwapWidth::Bits64 => "64",
+        }
+    }
 }
 
 impl fmt::Display for SwapWidth {
     ghost output = { λ x. Some (swap_text x) };
 
     fn fmt<W: fmt::Write>(&self, f: &mut fmt::Formatter<W>) -> fmt::Result {
-        match self {
-            SwapWidth::Bits16 => write!(f, "16"),
-            SwapWidth::Bits32 => write!(f, "32"),
-            SwapWidth::Bits64 => write!(f, "64"),
-        }
+        let name = self.name();
+        write!(f, "{name}")
     }
 }

@@ -58,15 +58,23 @@ impl Width {
             Width::W64 => 0xdb,
         }
     }
+
+    /// The bits, as in a mnemonic.
+    pub(crate) fn name(self) -> &'static str
+        ensures { result.now ≡ width_text self }
+    {
+        match self {
+            Width::W32 => "32",
+            Width::W64 => "64",
+        }
+    }
 }
 
 impl fmt::Display for Width {
     ghost output = { λ x. Some (width_text x) };
 
     fn fmt<W: fmt::Write>(&self, f: &mut fmt::Formatter<W>) -> fmt::Result {
-        match self {
-            Width::W32 => write!(f, "32"),
-            Width::W64 => write!(f, "64"),
-        }
+        let name = self.name();
+        write!(f, "{name}")
     }
 }
