@@ -1,6 +1,7 @@
 -- The proofs of `bpf_machine`.
 
 pub mod Decoded
+pub mod Groups
 pub mod Limiting
 pub mod Nulls
 pub mod Registers

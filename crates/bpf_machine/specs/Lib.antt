@@ -13,6 +13,7 @@ pub mod Access
 pub mod Atomics
 pub mod Writables
 pub mod Slots
+pub mod Groups
 pub mod Step
 pub mod StepResults
 pub mod Trace
