@@ -1,6 +1,6 @@
 //! Builds expanded expressions from their parts.
 
-ghost use Rattle.std.specs.Prelude.{◌≡◌, IfOk, string_bytes};
+ghost use Rattle.std.specs.Prelude.{◌≡◌, IfOk, IsOkAnd, string_bytes};
 ghost use Rattle.std.specs.Prelude as list;
 ghost use Rattle.cel_reader.specs.Tree.{literal_view};
 ghost use Rattle.cel_macros.specs.Callee.{callee_named};
@@ -11,8 +11,19 @@ ghost use Rattle.cel_macros.specs.Expanding.{core_pair};
 use crate::callee::Callee;
 use crate::core_tree::Core;
 use crate::macros::Macro;
-use cel_reader::Literal;
+use crate::together::both;
+use cel_reader::{BinaryOperator, Literal};
 use std::alloc::{AllocError, Global};
+
+/// An expression in a box, if its parts were made.
+pub(crate) type BoxedCore = Result<Box<Core>, AllocError>;
+
+/// The expression in a box.
+pub(crate) fn boxed(alloc: Global, core: Core) -> BoxedCore
+    ensures { IfOk result (λ b. b.value ≡ core) }
+{
+    Ok(Box::new(alloc, core)?)
+}
 
 /// A literal.
 pub(crate) fn literal(alloc: Global, literal: &Literal) -> Result<Core, AllocError>
@@ -44,10 +55,44 @@ pub(crate) fn variable(alloc: Global, name: &str) -> Result<Core, AllocError>
 }
 
 /// A field of an expression.
-pub(crate) fn select(alloc: Global, of: Box<Core>, field: &str) -> Result<Core, AllocError>
-    ensures { IfOk result (λ c. core_view c ≡ node.select (core_view of.value) field.now) }
+pub(crate) fn select(alloc: Global, of: BoxedCore, field: &str) -> Result<Core, AllocError>
+    ensures { IfOk result (λ c. IsOkAnd of (λ b. core_view c ≡ node.select (core_view b.value) field.now)) }
 {
-    Ok(Core::Select(of, String::from_str(alloc, field)?))
+    let (of, name) = both(of, String::from_str(alloc, field))?;
+    Ok(Core::Select(of, name))
+}
+
+/// An item of a list, or an entry of a map.
+pub(crate) fn index(of: BoxedCore, at: BoxedCore) -> Result<Core, AllocError>
+    ensures { IfOk result (λ c. IsOkAnd of (λ a. IsOkAnd at (λ b. core_view c ≡ node.index (core_view a.value) (core_view b.value)))) }
+{
+    let (of, at) = both(of, at)?;
+    Ok(Core::Index(of, at))
+}
+
+/// An operator with two operands.
+pub(crate) fn binary(
+    operator: BinaryOperator,
+    left: BoxedCore,
+    right: BoxedCore,
+) -> Result<Core, AllocError>
+    ensures { IfOk result (λ c. IsOkAnd left (λ a. IsOkAnd right (λ b. core_view c ≡ node.binary operator (core_view a.value) (core_view b.value)))) }
+{
+    let (left, right) = both(left, right)?;
+    Ok(Core::Binary(operator, left, right))
+}
+
+/// A conditional expression.
+pub(crate) fn ternary(
+    condition: BoxedCore,
+    yes: BoxedCore,
+    no: BoxedCore,
+) -> Result<Core, AllocError>
+    ensures { IfOk result (λ c. IsOkAnd condition (λ a. IsOkAnd yes (λ b. IsOkAnd no (λ d.
+        core_view c ≡ node.ternary (core_view a.value) (core_view b.value) (core_view d.value))))) }
+{
+    let (condition, (yes, no)) = both(condition, both(yes, no))?;
+    Ok(Core::Ternary(condition, yes, no))
 }
 
 /// Whether an expression has a field.
@@ -61,7 +106,13 @@ pub(crate) fn has(alloc: Global, of: Core, field: String) -> Result<Core, AllocE
 pub(crate) fn call(alloc: Global, name: &str, arguments: Vec<Core>) -> Result<Core, AllocError>
     ensures { IfOk result (λ c. core_view c ≡ node.call (callee_named name.now) (cores (list.map core_view arguments.items))) }
 {
-    Ok(Core::Call(Callee::of_name(alloc, name)?, arguments))
+    match Callee::of_name(alloc, name) {
+        Ok(callee) => Ok(Core::Call(callee, arguments)),
+        Err(error) => {
+            drop(arguments);
+            Err(error)
+        }
+    }
 }
 
 /// A list literal.
@@ -87,7 +138,14 @@ pub(crate) fn method(
 ) -> Result<Core, AllocError>
     ensures { IfOk result (λ c. core_view c ≡ node.method (core_view of.value) (callee_named name.now) (cores (list.map core_view arguments.items))) }
 {
-    Ok(Core::Method(of, Callee::of_name(alloc, name)?, arguments))
+    match Callee::of_name(alloc, name) {
+        Ok(callee) => Ok(Core::Method(of, callee, arguments)),
+        Err(error) => {
+            drop(of);
+            drop(arguments);
+            Err(error)
+        }
+    }
 }
 
 /// A macro over a range.
@@ -100,7 +158,14 @@ pub(crate) fn fold(
 ) -> Result<Core, AllocError>
     ensures { IfOk result (λ c. core_view c ≡ node.fold found (string_bytes name) (core_view range.value) (core_view part)) }
 {
-    Ok(Core::Fold(found, name, range, Box::new(alloc, part)?))
+    match boxed(alloc, part) {
+        Ok(part) => Ok(Core::Fold(found, name, range, part)),
+        Err(error) => {
+            drop(name);
+            drop(range);
+            Err(error)
+        }
+    }
 }
 
 /// `map` with a predicate over a range.
@@ -113,10 +178,12 @@ pub(crate) fn fold_map(
 ) -> Result<Core, AllocError>
     ensures { IfOk result (λ c. core_view c ≡ node.fold_map (string_bytes name) (core_view range.value) (core_view predicate) (core_view transform)) }
 {
-    Ok(Core::FoldMap(
-        name,
-        range,
-        Box::new(alloc, predicate)?,
-        Box::new(alloc, transform)?,
-    ))
+    match both(boxed(alloc, predicate), boxed(alloc, transform)) {
+        Ok((predicate, transform)) => Ok(Core::FoldMap(name, range, predicate, transform)),
+        Err(error) => {
+            drop(name);
+            drop(range);
+            Err(error)
+        }
+    }
 }

@@ -16,6 +16,7 @@ use crate::core_tree::Core;
 use crate::faults::test;
 use crate::macro_error::MacroError;
 use crate::names::is_variables;
+use crate::together::{appended, both};
 use crate::{build, folding};
 use cel_reader::Expr;
 use std::alloc::{AllocError, Global};
@@ -27,8 +28,7 @@ fn expansions(alloc: Global, items: &[Expr]) -> Result<Vec<Core>, AllocError>
 {
     let mut out = Vec::new(alloc);
     for item in items {
-        let core = expansion(alloc, item)?;
-        out.push(core)?;
+        out = appended(out, expansion(alloc, item))?;
     }
     Ok(out)
 }
@@ -40,9 +40,8 @@ fn entry_expansions(alloc: Global, pairs: &[(Expr, Expr)]) -> Result<Vec<(Core, 
 {
     let mut out = Vec::new(alloc);
     for (key, value) in pairs {
-        let core_key = expansion(alloc, key)?;
-        let core_value = expansion(alloc, value)?;
-        out.push((core_key, core_value))?;
+        let core_key = expansion(alloc, key);
+        out = appended(out, both(core_key, expansion(alloc, value)))?;
     }
     Ok(out)
 }
@@ -69,13 +68,10 @@ fn expansion(alloc: Global, e: &Expr) -> Result<Core, AllocError>
             if is_variables(of) {
                 return build::variable(alloc, field.as_str());
             }
-            let inner = boxed_expansion(alloc, of)?;
-            build::select(alloc, inner, field.as_str())
+            build::select(alloc, boxed_expansion(alloc, of), field.as_str())
         }
         Expr::Index(of, at) => {
-            let first = boxed_expansion(alloc, of)?;
-            let second = boxed_expansion(alloc, at)?;
-            Ok(Core::Index(first, second))
+            build::index(boxed_expansion(alloc, of), boxed_expansion(alloc, at))
         }
         Expr::Call(name, arguments) => {
             let parts = expansions(alloc, arguments.as_slice())?;
@@ -91,15 +87,13 @@ fn expansion(alloc: Global, e: &Expr) -> Result<Core, AllocError>
             Ok(Core::Unary(*operator, inner))
         }
         Expr::Binary(operator, left, right) => {
-            let first = boxed_expansion(alloc, left)?;
-            let second = boxed_expansion(alloc, right)?;
-            Ok(Core::Binary(*operator, first, second))
+            let first = boxed_expansion(alloc, left);
+            build::binary(*operator, first, boxed_expansion(alloc, right))
         }
         Expr::Ternary(condition, yes, no) => {
-            let test = boxed_expansion(alloc, condition)?;
-            let first = boxed_expansion(alloc, yes)?;
-            let second = boxed_expansion(alloc, no)?;
-            Ok(Core::Ternary(test, first, second))
+            let test = boxed_expansion(alloc, condition);
+            let first = boxed_expansion(alloc, yes);
+            build::ternary(test, first, boxed_expansion(alloc, no))
         }
         Expr::List(items) => {
             let parts = expansions(alloc, items.as_slice())?;
@@ -127,6 +121,17 @@ pub fn expand(alloc: Global, e: Expr) -> Result<Core, MacroError>
     ensures plain { IfOk result (λ c. plain_tree (core_view c) ≡ view e) }
     ensures meaning { IfOk result (λ c. (env : Environment) → fold_meaning (core_view c) env ≡ meaning (view e) env) }
 {
-    test(&e)?;
-    Ok(expansion(alloc, &e)?)
+    let core = tested_expansion(alloc, &e);
+    drop(e);
+    core
+}
+
+/// `expand` for a borrowed expression.
+fn tested_expansion(alloc: Global, e: &Expr) -> Result<Core, MacroError>
+    ensures refused { IfSome (macro_fault (view e.now)) (λ fault. result ≡ list.Err (fault_error fault)) }
+    ensures only { macro_fault (view e.now) ≡ list.None → MatchResult result (λ c. core_view c ≡ expanded (view e.now)) (λ f. f ≡ Memory) }
+    ensures expanded { IfOk result (λ c. core_view c ≡ expanded (view e.now)) }
+{
+    test(e)?;
+    Ok(expansion(alloc, e)?)
 }

@@ -14,6 +14,7 @@ mod macros;
 mod names;
 mod shape;
 mod text_test;
+mod together;
 
 pub use callee::Callee;
 pub use core_tree::Core;

@@ -1,7 +1,7 @@
 //! The shapes of arguments by which macros are recognized.
 
 /// The shape of a method's arguments.
-#[derive(Clone, Copy, Debug, PartialEq, Eq)]
+#[derive(Clone, Copy)]
 pub(crate) enum Shape {
     /// A name and one more argument.
     Pair,
