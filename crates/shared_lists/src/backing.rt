@@ -1,6 +1,6 @@
 //! A vector that copies share until one of them grows.
 
-ghost use Rattle.std.specs.Prelude.{◌≡◌, ◌≤◌, ◌<◌, ◌+◌, ◌^◌, [], ◌++◌, length, vec_len, vec_capacity, IfOk, OnOk, OnErr};
+ghost use Rattle.std.specs.Prelude.{◌≡◌, ◌≤◌, ◌<◌, ◌+◌, ◌^◌, [], ◌∷◌, ◌++◌, length, vec_len, vec_capacity, IfOk, IsOkAnd, OnOk, OnErr};
 ghost use Rattle.std.specs.Borrow.{sem};
 ghost use Rattle.shared_lists.specs.Items.{with_one};
 ghost use Rattle.shared_lists.specs.Lending.{LendsItems, LendsOwned};
@@ -28,7 +28,14 @@ impl<T: Copy> Backing<T> {
     pub fn new(alloc: Global) -> Result<Backing<T>, AllocError>
         ensures { IfOk result (λ b. b ≡ []) }
     {
-        let items = Rc::new(alloc, Vec::new(alloc)).ok().ok_or(AllocError)?;
+        Backing::of_vec(alloc, Ok(Vec::new(alloc)))
+    }
+
+    // A vector that was made before.
+    fn of_vec(alloc: Global, items: Result<Vec<T>, AllocError>) -> Result<Backing<T>, AllocError>
+        ensures { IfOk result (λ b. IsOkAnd items (λ v. b ≡ v.items)) }
+    {
+        let items = Rc::new(alloc, items?).ok().ok_or(AllocError)?;
         Ok(Backing { items })
     }
 
@@ -71,9 +78,7 @@ impl<T: Copy> Backing<T> {
         ensures { self.new ≡ self.old }
     {
         let alloc = *self.items.allocator();
-        let copy = copied(alloc, &self.items[..], more)?;
-        let items = Rc::new(alloc, copy).ok().ok_or(AllocError)?;
-        self.items = items;
+        *self = Backing::of_vec(alloc, copied(alloc, &self.items[..], more))?;
         Ok(())
     }
 
@@ -91,19 +96,15 @@ impl<T: Copy> Backing<T> {
     pub fn of(alloc: Global, items: &[T]) -> Result<Backing<T>, AllocError>
         ensures { IfOk result (λ b. b ≡ items.now) }
     {
-        let copy = copied(alloc, items, 0)?;
-        let items = Rc::new(alloc, copy).ok().ok_or(AllocError)?;
-        Ok(Backing { items })
+        Backing::of_vec(alloc, copied(alloc, items, 0))
     }
 
     /// A new vector with the items of one slice followed by those of another.
     pub fn joined(alloc: Global, first: &[T], second: &[T]) -> Result<Backing<T>, AllocError>
         ensures { IfOk result (λ b. b ≡ first.now ++ second.now) }
     {
-        let mut both = copied(alloc, first, second.len())?;
-        both.extend_from_slice(second)?;
-        let items = Rc::new(alloc, both).ok().ok_or(AllocError)?;
-        Ok(Backing { items })
+        let front = copied(alloc, first, second.len());
+        Backing::of_vec(alloc, appended(front, second))
     }
 
     /// A new vector with the items of a slice and one more item at this place.
@@ -116,11 +117,8 @@ impl<T: Copy> Backing<T> {
         requires { place ≤ length items.now }
         ensures { IfOk result (λ b. b ≡ with_one place item items.now) }
     {
-        let mut copy = copied(alloc, &items[..place], items.len())?;
-        copy.push(item)?;
-        copy.extend_from_slice(&items[place..])?;
-        let items = Rc::new(alloc, copy).ok().ok_or(AllocError)?;
-        Ok(Backing { items })
+        let front = with_last(copied(alloc, &items[..place], items.len()), item);
+        Backing::of_vec(alloc, appended(front, &items[place..]))
     }
 
     /// Appends items.
@@ -168,6 +166,34 @@ fn copied<T: Copy>(alloc: Global, items: &[T], more: usize) -> Result<Vec<T>, Al
     let mut copy = Vec::with_capacity(alloc, items.len().saturating_add(more))?;
     copy.extend_from_slice(items)?;
     Ok(copy)
+}
+
+// The items of a vector that was made before, followed by more.
+fn appended<T: Copy>(items: Result<Vec<T>, AllocError>, more: &[T]) -> Result<Vec<T>, AllocError>
+    ensures { IfOk result (λ v. IsOkAnd items (λ u. v.items ≡ u.items ++ more.now)) }
+{
+    let mut all = items?;
+    match all.extend_from_slice(more) {
+        Ok(()) => Ok(all),
+        Err(error) => {
+            drop(all);
+            Err(error)
+        }
+    }
+}
+
+// The items of a vector that was made before, and one more.
+fn with_last<T: Copy>(items: Result<Vec<T>, AllocError>, item: T) -> Result<Vec<T>, AllocError>
+    ensures { IfOk result (λ v. IsOkAnd items (λ u. v.items ≡ u.items ++ item ∷ [])) }
+{
+    let mut all = items?;
+    match all.push(item) {
+        Ok(()) => Ok(all),
+        Err(_refused) => {
+            drop(all);
+            Err(AllocError)
+        }
+    }
 }
 
 impl<T: Copy> Clone for Backing<T> {
