@@ -38,13 +38,28 @@ const REFUSED: [(u64, Size, Option<Fault>, Option<Fault>); 10] = [
     (0xffff_ffff_ffff_ffff, Dw, Some(Fault::F3), Some(Fault::F3)),
 ];
 
+/// Whether a load and a store are refused so.
+fn are_refused(
+    alloc: Global,
+    addr: u64,
+    size: Size,
+    load: Option<Fault>,
+    store: Option<Fault>,
+) -> Result<bool, Fail> {
+    let guest = start(alloc, b"constants")?;
+    let loads = load_fault(&guest, addr, size) == load;
+    let may_store = guest.stores(addr, size).err() == store;
+    let stores = store_fault(guest, addr, size) == store;
+    Ok(loads && may_store && stores)
+}
+
 #[test]
 fn refuses_loads_and_stores(rt: HostRuntime) -> Result<(), Fail> {
     for &(addr, size, load, store) in &REFUSED {
-        let guest = start(rt.alloc(), b"constants")?;
-        assert!(rt; load_fault(&guest, addr, size) == load, "loads {addr}");
-        assert!(rt; guest.stores(addr, size).err() == store, "may store {addr}");
-        assert!(rt; store_fault(guest, addr, size) == store, "stores {addr}");
+        assert!(rt;
+            are_refused(rt.alloc(), addr, size, load, store)?,
+            "{size:?} at {addr}"
+        );
     }
     Ok(())
 }
@@ -64,6 +79,12 @@ fn put(guest: &mut Guest, addr: u64, size: Size, word: u64) -> Result<(), WriteE
     guest.write(addr, size, word)
 }
 
+/// The memory after a store.
+fn stored(mut guest: Guest, addr: u64, size: Size, word: u64) -> Result<Guest, Fail> {
+    put(&mut guest, addr, size, word)?;
+    Ok(guest)
+}
+
 /// The bytes at the base of the stack, of the verdict and of the constants.
 fn bytes(guest: &Guest) -> [Option<u64>; 3] {
     [
@@ -75,11 +96,9 @@ fn bytes(guest: &Guest) -> [Option<u64>; 3] {
 
 /// These bytes of a memory and of its copy, after each has stored since the copy was made.
 fn bytes_apart(alloc: Global) -> Result<[[Option<u64>; 3]; 2], Fail> {
-    let mut guest = start(alloc, b"a")?;
-    put(&mut guest, 0x1_0000_0000, B, 1)?;
-    let mut copy = copied(&guest)?;
-    put(&mut copy, 0x1_0000_0000, B, 2)?;
-    put(&mut guest, 0x3_0000_0000, B, 3)?;
+    let guest = stored(start(alloc, b"a")?, 0x1_0000_0000, B, 1)?;
+    let copy = stored(copied(&guest)?, 0x1_0000_0000, B, 2)?;
+    let guest = stored(guest, 0x3_0000_0000, B, 3)?;
     Ok([bytes(&guest), bytes(&copy)])
 }
 
@@ -93,11 +112,9 @@ fn copies(rt: HostRuntime) -> Result<(), Fail> {
 
 /// The words that a memory and its copy load, after each has stored to one address since the copy was made.
 fn words_apart(alloc: Global, addr: u64) -> Result<[Option<u64>; 2], Fail> {
-    let mut guest = start(alloc, b"")?;
-    put(&mut guest, addr, Dw, 1)?;
-    let mut copy = copied(&guest)?;
-    put(&mut copy, addr, Dw, 2)?;
-    put(&mut guest, addr, H, 3)?;
+    let guest = stored(start(alloc, b"")?, addr, Dw, 1)?;
+    let copy = stored(copied(&guest)?, addr, Dw, 2)?;
+    let guest = stored(guest, addr, H, 3)?;
     Ok([word(&guest, addr, Dw), word(&copy, addr, Dw)])
 }
 

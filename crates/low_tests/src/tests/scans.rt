@@ -21,12 +21,15 @@ fn counts_at_each_length(rt: HostRuntime) {
     let bytes = mixed();
     let mut expected = 0;
     for length in 0..SIZE {
-        assert_eq!(rt; code_points(&bytes[..length]), expected, "length {length}");
+        assert!(rt;
+            code_points(&bytes[..length]) == expected,
+            "length {length}"
+        );
         if !matches!(bytes[length], 0x80..=0xbf) {
             expected += 1;
         }
     }
-    assert_eq!(rt; code_points(&bytes), expected);
+    assert!(rt; code_points(&bytes) == expected);
 }
 
 /// One byte differs, at each position, and either side has each length.
@@ -38,16 +41,9 @@ fn differs_at_each_place(rt: HostRuntime) {
         right[place] ^= 0x80;
         for length in 0..=SIZE {
             let expected = if place < length { place } else { length };
-            assert_eq!(rt;
-                first_difference(&left[..length], &right),
-                expected,
-                "place {place}, length {length}"
-            );
-            assert_eq!(rt;
-                first_difference(&left, &right[..length]),
-                expected,
-                "place {place}, length {length}"
-            );
+            let is_left = first_difference(&left[..length], &right) == expected;
+            let is_right = first_difference(&left, &right[..length]) == expected;
+            assert!(rt; is_left && is_right, "place {place}, length {length}");
         }
     }
 }
@@ -61,9 +57,8 @@ fn stops_at_each_place(rt: HostRuntime) {
         bytes[place] = specials[place % 5];
         for length in 0..=SIZE {
             let expected = if place < length { place } else { length };
-            assert_eq!(rt;
-                skip_plain(&bytes[..length]),
-                expected,
+            assert!(rt;
+                skip_plain(&bytes[..length]) == expected,
                 "place {place}, length {length}"
             );
         }
@@ -86,12 +81,18 @@ fn stops_among_mixed_bytes(rt: HostRuntime) {
     let bytes = mixed();
     for from in 0..=SIZE {
         let rest = &bytes[from..];
-        assert_eq!(rt; skip_plain(rest), plain_before(rest), "from {from}");
+        assert!(rt; skip_plain(rest) == plain_before(rest), "from {from}");
     }
 }
 
 /// Bytes, and the number of characters that begin in them.
-const COUNTED: [(&[u8], usize); 3] = [(b"", 0), (&[0x80; 33], 0), (&[0xbf; 64], 0)];
+const COUNTED: [(&[u8], usize); 4] = [
+    (b"", 0),
+    (&[0x80; 33], 0),
+    (&[0xbf; 64], 0),
+    // aé€😀
+    (b"a\xc3\xa9\xe2\x82\xac\xf0\x9f\x98\x80", 4),
+];
 
 /// Bytes, others, and the first position at which they differ.
 const DIFFERENT: [(&[u8], &[u8], usize); 3] = [
@@ -113,15 +114,14 @@ fn first_of_zeros(zeros: &[u8]) -> usize {
 #[test]
 fn edges(rt: HostRuntime) {
     for (bytes, expected) in &COUNTED {
-        assert_eq!(rt; code_points(bytes), *expected);
+        assert!(rt; code_points(bytes) == *expected, "{bytes:?}");
     }
-    assert_eq!(rt; code_points("aé€😀".as_bytes()), 4);
     for (left, right, expected) in &DIFFERENT {
-        assert_eq!(rt; first_difference(left, right), *expected);
+        assert!(rt; first_difference(left, right) == *expected, "{left:?}");
     }
-    assert_eq!(rt; first_of_zeros(&[0; 64]), 63);
-    assert_eq!(rt; first_of_zeros(&[0; 63]), 63);
+    assert!(rt; first_of_zeros(&[0; 64]) == 63);
+    assert!(rt; first_of_zeros(&[0; 63]) == 63);
     for (bytes, expected) in &SKIPPED {
-        assert_eq!(rt; skip_plain(bytes), *expected);
+        assert!(rt; skip_plain(bytes) == *expected, "{bytes:?}");
     }
 }

@@ -42,10 +42,15 @@ const FAR: [(&str, usize, &str, usize, u64); 8] = [
     ("", 65_534, "lddw r0, 0x0000000000000005", 65_535, 0),
 ];
 
+/// Whether the text's code has these slots.
+fn has_slots(alloc: Global, text: &str, slots: &[u64]) -> Result<bool, Fail> {
+    Ok(slots_of(alloc, text)?.as_slice() == slots)
+}
+
 #[test]
 fn programs_have_their_slots(rt: HostRuntime) -> Result<(), Fail> {
-    for (text, slots) in PROGRAMS.iter() {
-        assert_eq!(rt; slots_of(rt.alloc(), text)?.as_slice(), *slots, "{text}");
+    for (text, slots) in &PROGRAMS {
+        assert!(rt; has_slots(rt.alloc(), text, slots)?, "{text}");
     }
     Ok(())
 }
@@ -65,9 +70,9 @@ fn slot_at(
 
 #[test]
 fn jumps_reach_their_labels(rt: HostRuntime) -> Result<(), Fail> {
-    for (first, exits, last, index, slot) in FAR.iter() {
+    for (first, exits, last, index, slot) in &FAR {
         let found = slot_at(rt.alloc(), first, *exits, last, *index)?;
-        assert_eq!(rt; found, Some(*slot), "{first}{last}");
+        assert!(rt; found == Some(*slot), "{first}{last}");
     }
     Ok(())
 }

@@ -1,5 +1,5 @@
 //! Texts that are not programs.
-use super::{around, refusal_of};
+use super::{around, is_refused};
 use std::test::Fail;
 
 /// Lines without a valid form.
@@ -123,31 +123,33 @@ const FAR: [(&str, usize, &str, &str, usize); 7] = [
 
 #[test]
 fn lines_have_no_form(rt: HostRuntime) {
-    for line in FORMLESS.iter() {
-        assert_eq!(rt; refusal_of(rt.alloc(), line), ("A1", 1), "{line}");
+    for line in &FORMLESS {
+        assert!(rt; is_refused(rt.alloc(), line, "A1", 1), "{line}");
     }
 }
 
 #[test]
 fn numbers_are_out_of_range(rt: HostRuntime) {
-    for line in OUT_OF_RANGE.iter() {
-        assert_eq!(rt; refusal_of(rt.alloc(), line), ("A2", 1), "{line}");
+    for line in &OUT_OF_RANGE {
+        assert!(rt; is_refused(rt.alloc(), line, "A2", 1), "{line}");
     }
 }
 
 #[test]
 fn the_first_reason_is_told(rt: HostRuntime) {
-    for (text, reason, line) in REASONS.iter() {
-        assert_eq!(rt; refusal_of(rt.alloc(), text), (*reason, *line), "{text}");
+    for (text, reason, line) in &REASONS {
+        assert!(rt; is_refused(rt.alloc(), text, reason, *line), "{text}");
     }
 }
 
 #[test]
 fn far_lines_are_told(rt: HostRuntime) -> Result<(), Fail> {
-    for (first, exits, last, reason, line) in FAR.iter() {
+    for (first, exits, last, reason, line) in &FAR {
         let text = around(rt.alloc(), first, *exits, last)?;
-        let found = refusal_of(rt.alloc(), text.as_str());
-        assert_eq!(rt; found, (*reason, *line), "{first}{last}");
+        assert!(rt;
+            is_refused(rt.alloc(), text.as_str(), reason, *line),
+            "{first}{last}"
+        );
     }
     Ok(())
 }
