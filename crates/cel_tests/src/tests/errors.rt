@@ -8,13 +8,15 @@ use TypeError::{MisusedVariables, NoMatchingOverload, UnknownIdentifier};
 use cel_macros::MacroError;
 use cel_tokens::ReadError;
 use cel_types::TypeError;
-use std::alloc::{AllocError, Global};
+use std::alloc::Global;
 use std::fmt::Display;
-use std::test::Fail;
 
 /// Whether the error has this message.
-fn has_words<E: Display>(alloc: Global, error: &E, words: &str) -> Result<bool, AllocError> {
-    Ok(format!(in alloc; "{error}")?.as_str() == words)
+fn has_words<E: Display>(alloc: Global, error: &E, words: &str) -> bool {
+    match format!(in alloc; "{error}") {
+        Ok(text) => text.as_str() == words,
+        Err(_) => false,
+    }
 }
 
 /// The errors of a text, with their codes and messages.
@@ -54,18 +56,17 @@ const TYPE_ERRORS: [(TypeError, &str, &str); 3] = [
 ];
 
 #[test]
-fn errors_have_codes_and_words(rt: HostRuntime) -> Result<(), Fail> {
+fn errors_have_codes_and_words(rt: HostRuntime) {
     for (error, code, words) in &READ_ERRORS {
-        assert_eq!(rt; error.code(), *code);
-        assert!(rt; has_words(rt.alloc(), error, words)?, "{words}");
+        let has_code = error.code() == *code;
+        assert!(rt; has_code && has_words(rt.alloc(), error, words), "{code}");
     }
     for (error, code, words) in &MACRO_ERRORS {
-        assert_eq!(rt; error.code(), *code);
-        assert!(rt; has_words(rt.alloc(), error, words)?, "{words}");
+        let has_code = error.code() == *code;
+        assert!(rt; has_code && has_words(rt.alloc(), error, words), "{code}");
     }
     for (error, code, words) in &TYPE_ERRORS {
-        assert_eq!(rt; error.code(), *code);
-        assert!(rt; has_words(rt.alloc(), error, words)?, "{words}");
+        let has_code = error.code() == *code;
+        assert!(rt; has_code && has_words(rt.alloc(), error, words), "{code}");
     }
-    Ok(())
 }

@@ -4,7 +4,6 @@ use super::repeated;
 use ReadError::{IntOutOfRange, InvalidTextLiteral, TextTooLong, UnknownCharacter};
 use cel_tokens::{ReadError, Token, tokens};
 use std::alloc::{AllocError, Global};
-use std::test::Fail;
 
 /// Texts, and their tokens: position, end and kind of each.
 const READ: [(&str, &str); 14] = [
@@ -54,25 +53,46 @@ fn spelled(alloc: Global, tokens: &[Token]) -> Result<String, AllocError> {
     Ok(out)
 }
 
+/// Whether the tokens have these debug texts.
+fn has_words(alloc: Global, tokens: &[Token], words: &str) -> bool {
+    match spelled(alloc, tokens) {
+        Ok(text) => text.as_str() == words,
+        Err(_) => false,
+    }
+}
+
+/// Whether the tokens of the text have these debug texts.
+fn has_tokens(alloc: Global, text: &str, words: &str) -> bool {
+    match tokens(alloc, text) {
+        Ok(found) => has_words(alloc, found.as_slice(), words),
+        Err(_) => false,
+    }
+}
+
 /// The error of the text, if it has no tokens.
 fn refusal(alloc: Global, text: &str) -> Option<ReadError> {
     tokens(alloc, text).err()
 }
 
 #[test]
-fn reads_texts(rt: HostRuntime) -> Result<(), Fail> {
+fn reads_texts(rt: HostRuntime) {
     for (text, words) in &READ {
-        let found = tokens(rt.alloc(), text)?;
-        let found = spelled(rt.alloc(), found.as_slice())?;
-        assert_eq!(rt; found.as_str(), *words, "row {text}");
+        assert!(rt; has_tokens(rt.alloc(), text, words), "row {text}");
     }
-    Ok(())
 }
 
 #[test]
 fn refuses_texts(rt: HostRuntime) {
     for (text, cause) in &REFUSED {
-        assert_eq!(rt; refusal(rt.alloc(), text), Some(*cause), "row {text}");
+        assert!(rt; refusal(rt.alloc(), text) == Some(*cause), "row {text}");
+    }
+}
+
+/// Whether the repeated text and the text after it have this error.
+fn ends_so(alloc: Global, unit: &str, count: usize, more: &str, cause: Option<ReadError>) -> bool {
+    match repeated(alloc, unit, count, more) {
+        Ok(text) => refusal(alloc, text.as_str()) == cause,
+        Err(_) => false,
     }
 }
 
@@ -87,14 +107,11 @@ const LIMITS: [(&str, usize, &str, Option<ReadError>); 6] = [
 ];
 
 #[test]
-fn keeps_the_limits(rt: HostRuntime) -> Result<(), Fail> {
+fn keeps_the_limits(rt: HostRuntime) {
     for (unit, count, more, cause) in &LIMITS {
-        let text = repeated(rt.alloc(), unit, *count, more)?;
-        assert_eq!(rt;
-            refusal(rt.alloc(), text.as_str()),
-            *cause,
+        assert!(rt;
+            ends_so(rt.alloc(), unit, *count, more, *cause),
             "row {count} {more}"
         );
     }
-    Ok(())
 }

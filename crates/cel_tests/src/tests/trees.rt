@@ -4,9 +4,8 @@ use super::{cells, repeated};
 use ReadError::{
     IntOutOfRange, InvalidTextLiteral, TextTooLong, TooManyOpen, UnexpectedToken, UnknownCharacter,
 };
-use cel_reader::{ReadError, read};
+use cel_reader::{Expr, ReadError, read};
 use std::alloc::Global;
-use std::test::Fail;
 
 /// One row per line: a text, a broken bar and its tree.
 const TREES: &str = r#"--1¦Unary(Negate, Literal(Int(-1)))
@@ -70,19 +69,28 @@ const LIMITS: [(&str, usize, &str, Option<ReadError>); 17] = [
     ("9", 19, "", Some(IntOutOfRange(0))),
 ];
 
-/// The tree of the text as a debug text.
-fn spelled(alloc: Global, text: &str) -> Result<String, Fail> {
-    let tree = read(alloc, text)?;
-    Ok(format!(in alloc; "{tree:?}")?)
+/// Whether the tree has this debug text.
+fn has_text(alloc: Global, tree: &Expr, wanted: &str) -> bool {
+    match format!(in alloc; "{tree:?}") {
+        Ok(text) => text.as_str() == wanted,
+        Err(_) => false,
+    }
+}
+
+/// Whether the tree of the text has this debug text.
+fn is_spelled(alloc: Global, text: &str, wanted: &str) -> bool {
+    match read(alloc, text) {
+        Ok(tree) => has_text(alloc, &tree, wanted),
+        Err(_) => false,
+    }
 }
 
 #[test]
-fn reads_texts(rt: HostRuntime) -> Result<(), Fail> {
+fn reads_texts(rt: HostRuntime) {
     for line in TREES.lines() {
         let (text, tree) = cells(line);
-        assert_eq!(rt; spelled(rt.alloc(), text)?.as_str(), tree, "row {text}");
+        assert!(rt; is_spelled(rt.alloc(), text, tree), "row {text}");
     }
-    Ok(())
 }
 
 /// The error of the text, if it is not an expression.
@@ -90,15 +98,20 @@ fn refusal(alloc: Global, text: &str) -> Option<ReadError> {
     read(alloc, text).err()
 }
 
+/// Whether the repeated text and the text after it have this error.
+fn ends_so(alloc: Global, unit: &str, count: usize, more: &str, cause: Option<ReadError>) -> bool {
+    match repeated(alloc, unit, count, more) {
+        Ok(text) => refusal(alloc, text.as_str()) == cause,
+        Err(_) => false,
+    }
+}
+
 #[test]
-fn keeps_the_limits(rt: HostRuntime) -> Result<(), Fail> {
+fn keeps_the_limits(rt: HostRuntime) {
     for (unit, count, more, cause) in &LIMITS {
-        let text = repeated(rt.alloc(), unit, *count, more)?;
-        assert_eq!(rt;
-            refusal(rt.alloc(), text.as_str()),
-            *cause,
+        assert!(rt;
+            ends_so(rt.alloc(), unit, *count, more, *cause),
             "row {unit} {count}"
         );
     }
-    Ok(())
 }

@@ -2,6 +2,7 @@
 //! with one that they refuse; worked out by hand.
 
 use super::{core, repeated};
+use cel_macros::Core;
 use cel_types::{CelType, Scope, TypeError, check};
 use std::alloc::{AllocError, Global};
 use std::process::Abort;
@@ -9,28 +10,28 @@ use std::test::Fail;
 
 mod grids;
 
-/// The type of an expression, or its error.
-type Answer = Result<CelType, TypeError>;
+/// A letter for the type of an expression, or a mark for its error.
+type Answer = u8;
 
-const BOOL: Answer = Ok(CelType::Bool);
+const BOOL: Answer = b'B';
 
-const INT: Answer = Ok(CelType::Int);
+const INT: Answer = b'I';
 
-const STRING: Answer = Ok(CelType::String);
+const STRING: Answer = b'S';
 
-const NULL: Answer = Ok(CelType::Null);
+const NULL: Answer = b'N';
 
-const LIST: Answer = Ok(CelType::List);
+const LIST: Answer = b'L';
 
-const MAP: Answer = Ok(CelType::Map);
+const MAP: Answer = b'M';
 
-const DYN: Answer = Ok(CelType::Dyn);
+const DYN: Answer = b'D';
 
-const UnknownIdentifier: Answer = Err(TypeError::UnknownIdentifier);
+const UnknownIdentifier: Answer = b'?';
 
-const NoMatchingOverload: Answer = Err(TypeError::NoMatchingOverload);
+const NoMatchingOverload: Answer = b'-';
 
-const MisusedVariables: Answer = Err(TypeError::MisusedVariables);
+const MisusedVariables: Answer = b'!';
 
 /// Literals and names.
 const NAMES: [(&str, Answer); 31] = [
@@ -291,17 +292,42 @@ fn scope(alloc: Global) -> Result<Scope, AllocError> {
     Ok(scope)
 }
 
+/// The letter or the mark of the checker's result.
+fn letter(found: Result<CelType, TypeError>) -> Answer {
+    match found {
+        Ok(CelType::Bool) => BOOL,
+        Ok(CelType::Int) => INT,
+        Ok(CelType::String) => STRING,
+        Ok(CelType::Null) => NULL,
+        Ok(CelType::List) => LIST,
+        Ok(CelType::Map) => MAP,
+        Ok(CelType::Dyn) => DYN,
+        Err(TypeError::UnknownIdentifier) => UnknownIdentifier,
+        Err(TypeError::NoMatchingOverload) => NoMatchingOverload,
+        Err(TypeError::MisusedVariables) => MisusedVariables,
+    }
+}
+
+/// The checker's result for the expression in that scope.
+fn answer_for(alloc: Global, core: &Core) -> Option<Answer> {
+    let scope = scope(alloc).ok()?;
+    Some(letter(check(core, &scope)))
+}
+
 /// The type of the text's expression in that scope, or its error.
 fn answer(alloc: Global, text: &str) -> Option<Answer> {
-    let core = core(alloc, text)?;
-    let scope = scope(alloc).ok()?;
-    Some(check(&core, &scope))
+    answer_for(alloc, &core(alloc, text)?)
+}
+
+/// Whether the text's expression has this type or error.
+fn has_answer(alloc: Global, text: &str, wanted: Answer) -> bool {
+    answer(alloc, text) == Some(wanted)
 }
 
 /// Asserts each of these types and errors.
 fn assert_answers(rt: &impl Abort, alloc: Global, rows: &[(&str, Answer)]) {
     for (text, wanted) in rows {
-        assert_eq!(rt; answer(alloc, text), Some(*wanted), "row {text}");
+        assert!(rt; has_answer(alloc, text, *wanted), "row {text}");
     }
 }
 
@@ -319,6 +345,6 @@ fn types_expressions(rt: HostRuntime) {
 #[test]
 fn types_many_negations(rt: HostRuntime) -> Result<(), Fail> {
     let text = repeated(rt.alloc(), "!", 4095, "true")?;
-    assert_eq!(rt; answer(rt.alloc(), text.as_str()), Some(BOOL));
+    assert!(rt; has_answer(rt.alloc(), text.as_str(), BOOL));
     Ok(())
 }

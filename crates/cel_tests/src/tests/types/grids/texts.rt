@@ -1,71 +1,15 @@
 //! The results of tests of texts.
 
 use crate::tests::types::grids::Grid;
-use crate::tests::types::{BOOL, NoMatchingOverload};
 
 /// Tests of texts.
+#[rattlefmt::skip]
 pub(crate) const TESTED: Grid = [
-    [
-        NoMatchingOverload,
-        NoMatchingOverload,
-        NoMatchingOverload,
-        NoMatchingOverload,
-        NoMatchingOverload,
-        NoMatchingOverload,
-        NoMatchingOverload,
-    ],
-    [
-        NoMatchingOverload,
-        NoMatchingOverload,
-        NoMatchingOverload,
-        NoMatchingOverload,
-        NoMatchingOverload,
-        NoMatchingOverload,
-        NoMatchingOverload,
-    ],
-    [
-        NoMatchingOverload,
-        NoMatchingOverload,
-        BOOL,
-        NoMatchingOverload,
-        NoMatchingOverload,
-        NoMatchingOverload,
-        BOOL,
-    ],
-    [
-        NoMatchingOverload,
-        NoMatchingOverload,
-        NoMatchingOverload,
-        NoMatchingOverload,
-        NoMatchingOverload,
-        NoMatchingOverload,
-        NoMatchingOverload,
-    ],
-    [
-        NoMatchingOverload,
-        NoMatchingOverload,
-        NoMatchingOverload,
-        NoMatchingOverload,
-        NoMatchingOverload,
-        NoMatchingOverload,
-        NoMatchingOverload,
-    ],
-    [
-        NoMatchingOverload,
-        NoMatchingOverload,
-        NoMatchingOverload,
-        NoMatchingOverload,
-        NoMatchingOverload,
-        NoMatchingOverload,
-        NoMatchingOverload,
-    ],
-    [
-        NoMatchingOverload,
-        NoMatchingOverload,
-        BOOL,
-        NoMatchingOverload,
-        NoMatchingOverload,
-        NoMatchingOverload,
-        BOOL,
-    ],
+    b"-------",
+    b"-------",
+    b"--B---B",
+    b"-------",
+    b"-------",
+    b"-------",
+    b"--B---B",
 ];
