@@ -4,7 +4,7 @@ mod calls;
 mod lists;
 
 use serde_json::{Map, Value};
-use std::alloc::Global;
+use std::alloc::{AllocError, Global};
 use std::test::Fail;
 use value_store::{PlainTable, TableError, ValueStore};
 use value_table::Table;
@@ -26,15 +26,23 @@ const REFUSED: [([&str; 5], TableError); 9] = [
     (["null", "true", "{\"a\":1.5}", "null", "null"], TableError::NotAnObject(5)),
 ];
 
+/// Five null documents.
+fn null_documents() -> [Value; 5] {
+    [
+        Value::Null,
+        Value::Null,
+        Value::Null,
+        Value::Null,
+        Value::Null,
+    ]
+}
+
 pub(crate) fn documents(alloc: Global, texts: [&str; 5]) -> Result<[Value; 5], Fail> {
-    let [object, old, params, namespace, request] = texts;
-    Ok([
-        Value::from_str(alloc, object)?,
-        Value::from_str(alloc, old)?,
-        Value::from_str(alloc, params)?,
-        Value::from_str(alloc, namespace)?,
-        Value::from_str(alloc, request)?,
-    ])
+    let mut roots = null_documents();
+    for i in 0..5 {
+        roots[i] = Value::from_str(alloc, texts[i])?;
+    }
+    Ok(roots)
 }
 
 fn table_of(alloc: Global, texts: [&str; 5]) -> Result<Table, Fail> {
@@ -64,48 +72,47 @@ fn plain_refusal_of(alloc: Global, texts: [&str; 5]) -> Result<Option<TableError
     Ok(PlainTable::of_roots(alloc, &roots).err())
 }
 
-/// The first roots that one of the tables does not refuse with this error.
-fn first_taken(alloc: Global, rows: &[([&str; 5], TableError)]) -> Result<Option<usize>, Fail> {
-    for (row, (texts, cause)) in rows.iter().enumerate() {
-        let cells = refusal_of(alloc, *texts)?;
-        let plain = plain_refusal_of(alloc, *texts)?;
-        if cells.as_ref() != Some(cause) || plain.as_ref() != Some(cause) {
-            return Ok(Some(row));
-        }
-    }
-    Ok(None)
+/// Whether both tables refuse these roots with this error.
+fn are_refused(alloc: Global, texts: [&str; 5], cause: TableError) -> Result<bool, Fail> {
+    let cells = refusal_of(alloc, texts)?;
+    let plain = plain_refusal_of(alloc, texts)?;
+    Ok(cells == Some(cause) && plain == Some(cause))
 }
 
 #[test]
 fn refused_roots(rt: HostRuntime) -> Result<(), Fail> {
-    assert_eq!(rt; first_taken(rt.alloc(), &REFUSED)?, None);
+    for &(texts, cause) in &REFUSED {
+        assert!(rt; are_refused(rt.alloc(), texts, cause)?, "{texts:?}");
+    }
     Ok(())
+}
+
+/// A text of 16,777,216 bytes.
+fn long_text(alloc: Global) -> Result<String, AllocError> {
+    "a".repeat(alloc, 16_777_216)
+}
+
+/// An object with this text.
+fn object_with(alloc: Global, text: Result<String, AllocError>) -> Result<Value, AllocError> {
+    let mut object = Map::new(alloc);
+    object.insert(String::from_str(alloc, "a")?, Value::String(text?))?;
+    Ok(Value::Object(object))
+}
+
+/// The five documents whose first is an object with that text.
+fn large_documents(alloc: Global) -> Result<[Value; 5], AllocError> {
+    let mut roots = null_documents();
+    roots[0] = object_with(alloc, long_text(alloc))?;
+    Ok(roots)
 }
 
 /// An object with a text of 16,777,216 bytes.
 #[test]
 fn a_root_too_large(rt: HostRuntime) -> Result<(), Fail> {
-    let mut large = Map::new(rt.alloc());
-    let mut text = String::from_str(rt.alloc(), "a")?;
-    for _ in 0..24 {
-        let half = text.clone()?;
-        text.push_str(half.as_str())?;
-    }
-    large.insert(String::from_str(rt.alloc(), "a")?, Value::String(text))?;
-    let roots = [
-        Value::Object(large),
-        Value::Null,
-        Value::Null,
-        Value::Null,
-        Value::Null,
-    ];
-    assert_eq!(rt;
-        Table::of_roots(rt.alloc(), &roots).err(),
-        Some(TableError::RootsTooLarge)
-    );
-    assert_eq!(rt;
-        PlainTable::of_roots(rt.alloc(), &roots).err(),
-        Some(TableError::RootsTooLarge)
-    );
+    let roots = large_documents(rt.alloc())?;
+    let cells = Table::of_roots(rt.alloc(), &roots).err();
+    assert!(rt; cells == Some(TableError::RootsTooLarge));
+    let plain = PlainTable::of_roots(rt.alloc(), &roots).err();
+    assert!(rt; plain == Some(TableError::RootsTooLarge));
     Ok(())
 }

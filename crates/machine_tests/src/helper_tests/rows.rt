@@ -337,53 +337,78 @@ fn ends_so(
     Ok(found == wanted.end && charged == wanted.cost && next.as_str() == wanted.value)
 }
 
-/// The first row that fails.
-fn wrong_row(alloc: Global, rows: &[Row]) -> Result<Option<usize>, Fail> {
-    let memory = memory_of_constants(alloc)?;
-    let table = values(alloc, &memory)?;
+/// The number of rows before the first that fails.
+fn right_rows(
+    alloc: Global,
+    table: &PlainTable,
+    memory: &Guest,
+    rows: &[Row],
+) -> Result<usize, AllocError> {
     for (place, &(id, args, word, cost, value)) in rows.iter().enumerate() {
         let end = HelperEnd::Word(word);
         let wanted = Outcome { end, cost, value };
-        if !ends_so(alloc, &table, &memory, Call { id, args }, wanted)? {
-            return Ok(Some(place));
+        if !ends_so(alloc, table, memory, Call { id, args }, wanted)? {
+            return Ok(place);
         }
     }
-    Ok(None)
+    Ok(rows.len())
 }
+
+/// The number of the rows before the first that fails, on new values.
+fn right_words(alloc: Global, rows: &[Row]) -> Result<usize, Fail> {
+    let memory = memory_of_constants(alloc)?;
+    let table = values(alloc, &memory)?;
+    Ok(right_rows(alloc, &table, &memory, rows)?)
+}
+
+/// The tables of calls that return a word.
+const TABLES: [(&str, &[Row]); 4] = [
+    ("conversions", &CONVERSIONS),
+    ("lookups", &LOOKUPS),
+    ("comparisons", &COMPARISONS),
+    ("building", &BUILDING),
+];
 
 #[test]
 fn words(rt: HostRuntime) -> Result<(), Fail> {
-    let tables = [
-        &CONVERSIONS[..],
-        &LOOKUPS[..],
-        &COMPARISONS[..],
-        &BUILDING[..],
-    ];
-    for (table, rows) in tables.into_iter().enumerate() {
-        assert_eq!(rt; wrong_row(rt.alloc(), rows)?, None, "table {table}");
+    for (name, rows) in &TABLES {
+        let right = right_words(rt.alloc(), rows)?;
+        assert!(rt; right == rows.len(), "row {right} of {name}");
     }
     Ok(())
 }
 
-/// The first call that is not stopped by its fault, or that changes the values or the charge.
-fn wrong_stop(alloc: Global, rows: &[(i32, [u64; 3], Fault)]) -> Result<Option<usize>, Fail> {
-    let memory = memory_of_constants(alloc)?;
-    let table = values(alloc, &memory)?;
+/// The number of calls before the first that is not stopped by its fault, or that changes the values or the charge.
+fn right_faults(
+    alloc: Global,
+    table: &PlainTable,
+    memory: &Guest,
+    rows: &[(i32, [u64; 3], Fault)],
+) -> Result<usize, AllocError> {
     for (place, &(id, args, fault)) in rows.iter().enumerate() {
+        let end = HelperEnd::Stop(fault);
         let wanted = Outcome {
-            end: HelperEnd::Stop(fault),
+            end,
             cost: 0,
             value: "",
         };
-        if !ends_so(alloc, &table, &memory, Call { id, args }, wanted)? {
-            return Ok(Some(place));
+        if !ends_so(alloc, table, memory, Call { id, args }, wanted)? {
+            return Ok(place);
         }
     }
-    Ok(None)
+    Ok(rows.len())
+}
+
+/// The number of the stopped calls before the first that fails, on new values.
+fn right_stops(alloc: Global) -> Result<usize, Fail> {
+    let memory = memory_of_constants(alloc)?;
+    let table = values(alloc, &memory)?;
+    Ok(right_faults(alloc, &table, &memory, &STOPS)?)
 }
 
 #[test]
 fn stops(rt: HostRuntime) -> Result<(), Fail> {
-    assert_eq!(rt; wrong_stop(rt.alloc(), &STOPS)?, None);
+    let right = right_stops(rt.alloc())?;
+    assert!(rt; right == 11, "row {right}");
     Ok(())
 }

@@ -1,10 +1,11 @@
 //! Searches of a part in a text, of few bytes and of many.
 
 use crate::helper_tests::{called, memory_of_constants, nulls};
+use guest_memory::Guest;
 use helper_table::HelperEnd;
-use std::alloc::Global;
+use std::alloc::{AllocError, Global};
 use std::test::Fail;
-use value_store::ValueStore;
+use value_store::{PlainTable, ValueStore};
 
 /// The letters of a text, how often they follow each other, a part, and whether the text contains it.
 type Row = (&'static str, usize, &'static str, bool);
@@ -30,13 +31,23 @@ const SEARCHES: [Row; 15] = [
 /// Helper 14 tells whether a text contains a part.
 const CONTAINS: i32 = 14;
 
+/// The answer of the helper, after both texts were placed.
+fn answer(
+    table: &mut PlainTable,
+    memory: &Guest,
+    text: &str,
+    part: &str,
+) -> Result<HelperEnd, AllocError> {
+    let whole = table.place_text(text)?;
+    let part = table.place_text(part)?;
+    called(CONTAINS, [whole, part, 0], table, memory)
+}
+
 /// Whether the answer is `wanted`.
 fn answers_so(alloc: Global, text: &str, part: &str, wanted: bool) -> Result<bool, Fail> {
     let memory = memory_of_constants(alloc)?;
     let mut table = nulls(alloc)?;
-    let whole = table.place_text(text)?;
-    let part = table.place_text(part)?;
-    let end = called(CONTAINS, [whole, part, 0], &mut table, &memory)?;
+    let end = answer(&mut table, &memory, text, part)?;
     Ok(end == HelperEnd::Word(if wanted { 3 } else { 2 }))
 }
 

@@ -1,11 +1,9 @@
 //! Loads and stores, and their faults.
 
-use super::{EXIT, answer, wide};
+use super::{EXIT, answer, answers, wide};
 use bpf_machine::Status;
 use guest_memory::Fault;
 use std::alloc::Global;
-use std::process::Abort;
-use std::test::Fail;
 
 /// R1 = 0x2_0000_0000, the base of scratch, and R2 = 0xf0e1_d2c3_b4a5_9687, by two wide loads.
 const ADDRESS: [u64; 2] = [0x1801_0000_0000_0000, 0x0000_0000_0200_0000];
@@ -27,20 +25,19 @@ const LOADS: [(u64, u64); 10] = [
     (0x8110_0500_0000_0000, 0x00f0_e1d2),
 ];
 
-fn loads_word(alloc: Global, load: u64, r0: u64) -> Result<bool, Fail> {
+fn loads_word(alloc: Global, load: u64, r0: u64) -> bool {
     let [address, high_address] = ADDRESS;
     let [word, high_word] = WORD;
     let store = 0x7b21_0000_0000_0000;
     let slots = [address, high_address, word, high_word, store, load, EXIT];
-    Ok(answer(alloc, &slots, &[])? == (5, Status::Exited(r0)))
+    answers(alloc, &slots, (5, Status::Exited(r0)))
 }
 
 #[test]
-fn loads(rt: HostRuntime) -> Result<(), Fail> {
-    for (row, (load, r0)) in LOADS.into_iter().enumerate() {
-        assert!(rt; loads_word(rt.alloc(), load, r0)?, "row {row}");
+fn loads(rt: HostRuntime) {
+    for &(load, r0) in &LOADS {
+        assert!(rt; loads_word(rt.alloc(), load, r0), "slot {load:016x}");
     }
-    Ok(())
 }
 
 /// At the base of scratch, in R1, are eight bytes ff; each store writes some of them, from R2
@@ -58,7 +55,7 @@ const STORES: [(u64, u64); 10] = [
     (0x7b21_0800_0000_0000, 0xffff_ffff_ffff_ffff),
 ];
 
-fn stores_word(alloc: Global, store: u64, r0: u64) -> Result<bool, Fail> {
+fn stores_word(alloc: Global, store: u64, r0: u64) -> bool {
     let [address, high_address] = ADDRESS;
     let [word, high_word] = WORD;
     let ones = 0x7a01_0000_ffff_ffff;
@@ -73,15 +70,14 @@ fn stores_word(alloc: Global, store: u64, r0: u64) -> Result<bool, Fail> {
         load,
         EXIT,
     ];
-    Ok(answer(alloc, &slots, &[])? == (6, Status::Exited(r0)))
+    answers(alloc, &slots, (6, Status::Exited(r0)))
 }
 
 #[test]
-fn stores(rt: HostRuntime) -> Result<(), Fail> {
-    for (row, (store, r0)) in STORES.into_iter().enumerate() {
-        assert!(rt; stores_word(rt.alloc(), store, r0)?, "row {row}");
+fn stores(rt: HostRuntime) {
+    for &(store, r0) in &STORES {
+        assert!(rt; stores_word(rt.alloc(), store, r0), "slot {store:016x}");
     }
-    Ok(())
 }
 
 /// An address in R1, the access, the constants, and the fault, if any.
@@ -108,7 +104,7 @@ fn access_answer(
     address: u64,
     access: u64,
     constants: &[u8],
-) -> Result<(u64, Status), Fail> {
+) -> Option<(u64, Status)> {
     let [low, high] = wide(1, address);
     answer(alloc, &[low, high, access, EXIT], constants)
 }
@@ -121,20 +117,10 @@ fn expected_answer(fault: Option<Fault>) -> (u64, Status) {
     }
 }
 
-/// Asserts the results of runs of these accesses.
-fn assert_bounds(
-    rt: &impl Abort,
-    alloc: Global,
-    rows: &[(u64, u64, &[u8], Option<Fault>)],
-) -> Result<(), Fail> {
-    for (row, (address, access, constants, fault)) in rows.iter().enumerate() {
-        let answer = access_answer(alloc, *address, *access, constants)?;
-        assert!(rt; answer == expected_answer(*fault), "row {row}");
-    }
-    Ok(())
-}
-
 #[test]
-fn bounds(rt: HostRuntime) -> Result<(), Fail> {
-    assert_bounds(&rt, rt.alloc(), &BOUNDS)
+fn bounds(rt: HostRuntime) {
+    for (row, (address, access, constants, fault)) in BOUNDS.iter().enumerate() {
+        let answer = access_answer(rt.alloc(), *address, *access, constants);
+        assert!(rt; answer == Some(expected_answer(*fault)), "row {row}");
+    }
 }

@@ -3,13 +3,12 @@
 use super::{EXIT, answer, wide};
 use bpf_machine::Status;
 use std::alloc::Global;
-use std::test::Fail;
 
 /// R1, R2, a slot, and the value of R0 after that slot, `r0 = r1` and `exit`.
 type Row = (u64, u64, u64, u64);
 
 /// The status after `r1 = dst`, `r2 = operand`, the slot, `r0 = r1` and `exit`.
-fn status_after(alloc: Global, dst: u64, operand: u64, slot: u64) -> Result<Status, Fail> {
+fn status_after(alloc: Global, dst: u64, operand: u64, slot: u64) -> Option<Status> {
     let [dst_low, dst_high] = wide(1, dst);
     let [operand_low, operand_high] = wide(2, operand);
     let slots = [
@@ -22,17 +21,17 @@ fn status_after(alloc: Global, dst: u64, operand: u64, slot: u64) -> Result<Stat
         EXIT,
     ];
     let (_, status) = answer(alloc, &slots, &[])?;
-    Ok(status)
+    Some(status)
 }
 
-/// The first row with another result, if any.
-fn wrong_row(alloc: Global, rows: &[Row]) -> Result<Option<usize>, Fail> {
-    for (row, (dst, operand, slot, r0)) in rows.iter().copied().enumerate() {
-        if status_after(alloc, dst, operand, slot)? != Status::Exited(r0) {
-            return Ok(Some(row));
+/// The number of rows before the first with another result.
+fn right_rows(alloc: Global, rows: &[Row]) -> usize {
+    for (row, &(dst, operand, slot, r0)) in rows.iter().enumerate() {
+        if status_after(alloc, dst, operand, slot) != Some(Status::Exited(r0)) {
+            return row;
         }
     }
-    Ok(None)
+    rows.len()
 }
 
 /// Add, sub, mul, div, sdiv, or, and, lsh, rsh, mod, smod, xor, mov, arsh: the opcode for 64 bits with an
@@ -68,24 +67,29 @@ fn slots(opcode: u8, offset: u8, imm: i32) -> [u64; 4] {
     ]
 }
 
+/// The number of the operation's slots before the first with another result.
+fn right_slots(
+    alloc: Global,
+    [first, second, third, fourth]: [u64; 4],
+    (dst, operand): (u64, u64),
+    [imm_64, reg_64]: [u64; 2],
+    [imm_32, reg_32]: [u64; 2],
+) -> usize {
+    let rows = [
+        (dst, operand, first, imm_64),
+        (dst, operand, second, reg_64),
+        (dst, operand, third, imm_32),
+        (dst, operand, fourth, reg_32),
+    ];
+    right_rows(alloc, &rows)
+}
+
 #[test]
-fn operations(rt: HostRuntime) -> Result<(), Fail> {
-    for &(
-        (opcode, offset, imm),
-        (dst, operand),
-        [imm_64, reg_64],
-        [imm_32, reg_32],
-    ) in &OPERATIONS {
-        let [first, second, third, fourth] = slots(opcode, offset, imm);
-        let rows = [
-            (dst, operand, first, imm_64),
-            (dst, operand, second, reg_64),
-            (dst, operand, third, imm_32),
-            (dst, operand, fourth, reg_32),
-        ];
-        assert_eq!(rt; wrong_row(rt.alloc(), &rows)?, None, "{opcode}");
+fn operations(rt: HostRuntime) {
+    for &((opcode, offset, imm), words, of_64, of_32) in &OPERATIONS {
+        let right = right_slots(rt.alloc(), slots(opcode, offset, imm), words, of_64, of_32);
+        assert!(rt; right == 4, "{opcode:x}, slot {right}");
     }
-    Ok(())
 }
 
 /// Sign-extending moves from 8, 16, 8, 16 and 32 bits, negations, and le, be and swap of 16, 32 and 64 bits.
@@ -110,9 +114,9 @@ const SIGNS_AND_BYTE_ORDER: [Row; 16] = [
 ];
 
 #[test]
-fn signs_and_byte_order(rt: HostRuntime) -> Result<(), Fail> {
-    assert_eq!(rt; wrong_row(rt.alloc(), &SIGNS_AND_BYTE_ORDER)?, None);
-    Ok(())
+fn signs_and_byte_order(rt: HostRuntime) {
+    let right = right_rows(rt.alloc(), &SIGNS_AND_BYTE_ORDER);
+    assert!(rt; right == 16, "row {right}");
 }
 
 /// Every kind of division by zero, the least value by -1, a large unsigned divisor, and shifts by the width and more.
@@ -138,7 +142,7 @@ const EDGES: [Row; 17] = [
 ];
 
 #[test]
-fn edges(rt: HostRuntime) -> Result<(), Fail> {
-    assert_eq!(rt; wrong_row(rt.alloc(), &EDGES)?, None);
-    Ok(())
+fn edges(rt: HostRuntime) {
+    let right = right_rows(rt.alloc(), &EDGES);
+    assert!(rt; right == 17, "row {right}");
 }

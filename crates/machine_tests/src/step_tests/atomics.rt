@@ -4,7 +4,6 @@ use bpf_machine::Status;
 use guest_memory::{Fault, Regions, Size};
 use insn_codec::Register;
 use std::alloc::Global;
-use std::test::Fail;
 
 /// The word in memory, at the base of scratch.
 const OLD: u64 = 0xf0f0_f0f0_8000_0003;
@@ -56,7 +55,7 @@ fn words(machine: &Plain) -> [Option<u64>; 3] {
 }
 
 /// These words after an instruction on the word at R1.
-fn after(alloc: Global, slot: u64, r0: u64) -> Result<[Option<u64>; 3], Fail> {
+fn after(alloc: Global, slot: u64, r0: u64) -> Option<[Option<u64>; 3]> {
     let [base, high_base] = wide(1, 0x2_0000_0000);
     let [old, high_old] = wide(2, OLD);
     let [src, high_src] = wide(2, SRC);
@@ -66,20 +65,23 @@ fn after(alloc: Global, slot: u64, r0: u64) -> Result<[Option<u64>; 3], Fail> {
         base, high_base, old, high_old, store, src, high_src, first, high_first, slot,
     ];
     let machine = run_machine(machine(alloc, &slots, &[])?, 6)?;
-    Ok(words(&machine))
+    Some(words(&machine))
 }
 
-fn leaves(alloc: Global, slot: u64, r0: u64, expected: [u64; 3]) -> Result<bool, Fail> {
+/// Whether the instruction leaves these words.
+fn leaves(alloc: Global, slot: u64, r0: u64, expected: [u64; 3]) -> bool {
     let [first, second, word] = expected;
-    Ok(after(alloc, slot, r0)? == [Some(first), Some(second), Some(word)])
+    after(alloc, slot, r0) == Some([Some(first), Some(second), Some(word)])
 }
 
 #[test]
-fn operations(rt: HostRuntime) -> Result<(), Fail> {
-    for (row, (slot, r0, expected)) in OPERATIONS.into_iter().enumerate() {
-        assert!(rt; leaves(rt.alloc(), slot, r0, expected)?, "row {row}");
+fn operations(rt: HostRuntime) {
+    for &(slot, r0, expected) in &OPERATIONS {
+        assert!(rt;
+            leaves(rt.alloc(), slot, r0, expected),
+            "slot {slot:016x}, r0 {r0:x}"
+        );
     }
-    Ok(())
 }
 
 /// Programs of five steps and the word with which each exits: R0 is 0x1_0000_0007 and R1 is 5, then [r10-8] becomes
@@ -93,7 +95,7 @@ const PROGRAMS: [(u64, u64, u64); 4] = [
     (0xc31a_f8ff_f100_0000, 0xbf00_0000_0000_0000, 7),
 ];
 
-fn exits(alloc: Global, slot: u64, last: u64, r0: u64) -> Result<bool, Fail> {
+fn exits(alloc: Global, slot: u64, last: u64, r0: u64) -> bool {
     let [first, high_first] = wide(0, 0x1_0000_0007);
     let slots = [
         first,
@@ -108,11 +110,13 @@ fn exits(alloc: Global, slot: u64, last: u64, r0: u64) -> Result<bool, Fail> {
 }
 
 #[test]
-fn programs(rt: HostRuntime) -> Result<(), Fail> {
-    for (row, (slot, last, r0)) in PROGRAMS.into_iter().enumerate() {
-        assert!(rt; exits(rt.alloc(), slot, last, r0)?, "program {row}");
+fn programs(rt: HostRuntime) {
+    for &(slot, last, r0) in &PROGRAMS {
+        assert!(rt;
+            exits(rt.alloc(), slot, last, r0),
+            "slots {slot:016x} {last:016x}"
+        );
     }
-    Ok(())
 }
 
 /// R1, an instruction, and the fault that stops it, with eight constants.
@@ -132,16 +136,18 @@ const FAULTS: [(u64, u64, Fault); 11] = [
     (0x2_0000_0000, 0xdb21_0000_f000_0000, Fault::F2),
 ];
 
-fn stops(alloc: Global, r1: u64, slot: u64, fault: Fault) -> Result<bool, Fail> {
+fn stops(alloc: Global, r1: u64, slot: u64, fault: Fault) -> bool {
     let [base, high_base] = wide(1, r1);
     let slots = [base, high_base, slot];
-    Ok(answer(alloc, &slots, b"constant")? == (2, Status::Fault(fault)))
+    answer(alloc, &slots, b"constant") == Some((2, Status::Fault(fault)))
 }
 
 #[test]
-fn faults(rt: HostRuntime) -> Result<(), Fail> {
-    for (row, (r1, slot, fault)) in FAULTS.into_iter().enumerate() {
-        assert!(rt; stops(rt.alloc(), r1, slot, fault)?, "row {row}");
+fn faults(rt: HostRuntime) {
+    for &(r1, slot, fault) in &FAULTS {
+        assert!(rt;
+            stops(rt.alloc(), r1, slot, fault),
+            "slot {slot:016x}, r1 {r1:x}"
+        );
     }
-    Ok(())
 }

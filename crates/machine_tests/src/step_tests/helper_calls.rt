@@ -5,8 +5,6 @@ use bpf_machine::Status;
 use guest_memory::Fault;
 use insn_codec::Register;
 use std::alloc::Global;
-use std::process::Abort;
-use std::test::Fail;
 use value_store::ValueStore;
 
 /// `r1` = a reference, and the kind of its value.
@@ -66,41 +64,46 @@ const CALLS: [(&[u64], &[u8], End); 6] = [
     (DOUBLES, b"a", (94, 6, Status::Fault(Fault::F8))),
 ];
 
-fn end_of(alloc: Global, slots: &[u64], constants: &[u8]) -> Result<End, Fail> {
+fn end_of(alloc: Global, slots: &[u64], constants: &[u8]) -> Option<End> {
     let mut machine = machine(alloc, slots, constants)?;
-    let (steps, status) = machine.run(9999)?;
-    Ok((steps, machine.pc(), status))
-}
-
-/// Asserts the ends of these runs.
-fn assert_ends(rt: &impl Abort, alloc: Global, rows: &[(&[u64], &[u8], End)]) -> Result<(), Fail> {
-    for (row, (slots, constants, end)) in rows.iter().enumerate() {
-        let stands = end_of(alloc, slots, constants)? == *end;
-        assert!(rt; stands, "row {row}");
-    }
-    Ok(())
+    let (steps, status) = machine.run(9999).ok()?;
+    Some((steps, machine.pc(), status))
 }
 
 #[test]
-fn calls_of_helpers(rt: HostRuntime) -> Result<(), Fail> {
-    assert_ends(&rt, rt.alloc(), &CALLS)
+fn calls_of_helpers(rt: HostRuntime) {
+    for (row, (slots, constants, end)) in CALLS.iter().enumerate() {
+        assert!(rt;
+            end_of(rt.alloc(), slots, constants) == Some(*end),
+            "row {row}"
+        );
+    }
 }
 
 /// The number of values, their charge and R1 after a run.
-fn left_by(alloc: Global, slots: &[u64], constants: &[u8]) -> Result<[u64; 3], Fail> {
+fn left_by(alloc: Global, slots: &[u64], constants: &[u8]) -> Option<[u64; 3]> {
     let machine = run_machine(machine(alloc, slots, constants)?, 9999)?;
     let values = machine.values();
-    Ok([
+    Some([
         values.len(),
         values.charge(),
         machine.register(Register::R1),
     ])
 }
 
+/// Slots, constants, and the number of values, their charge and R1 after a run.
+const LEFT: [(&[u64], &[u8], [u64; 3]); 3] = [
+    (KIND_OF_TRUE, b"", [9, 6, 0]),
+    (KIND_OF_NOTHING, b"", [9, 5, 9]),
+    (SIZE_OF_TEXT, b"\xc3\xa9", [11, 10, 0]),
+];
+
 #[test]
-fn calls_leave_values(rt: HostRuntime) -> Result<(), Fail> {
-    assert!(rt; left_by(rt.alloc(), KIND_OF_TRUE, b"")? == [9, 6, 0]);
-    assert!(rt; left_by(rt.alloc(), KIND_OF_NOTHING, b"")? == [9, 5, 9]);
-    assert!(rt; left_by(rt.alloc(), SIZE_OF_TEXT, b"\xc3\xa9")? == [11, 10, 0]);
-    Ok(())
+fn calls_leave_values(rt: HostRuntime) {
+    for (row, (slots, constants, left)) in LEFT.iter().enumerate() {
+        assert!(rt;
+            left_by(rt.alloc(), slots, constants) == Some(*left),
+            "row {row}"
+        );
+    }
 }

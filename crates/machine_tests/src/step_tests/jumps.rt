@@ -6,10 +6,9 @@ use bpf_machine::Status;
 use guest_memory::Fault;
 use insn_codec::Register;
 use std::alloc::Global;
-use std::test::Fail;
 
 /// The status after `r1 = dst`, `r2 = operand`, the jump over the next slot, `r0 = 1` and `exit`.
-fn status_over(alloc: Global, dst: u64, operand: u64, jump: u64) -> Result<Status, Fail> {
+fn status_over(alloc: Global, dst: u64, operand: u64, jump: u64) -> Option<Status> {
     let [dst_low, dst_high] = wide(1, dst);
     let [operand_low, operand_high] = wide(2, operand);
     let one = 0xb700_0000_0100_0000;
@@ -23,7 +22,7 @@ fn status_over(alloc: Global, dst: u64, operand: u64, jump: u64) -> Result<Statu
         EXIT,
     ];
     let (_, status) = answer(alloc, &slots, &[])?;
-    Ok(status)
+    Some(status)
 }
 
 /// The opcodes of each comparison (an immediate and a register for 64 bits, then for 32), and whether it
@@ -42,46 +41,46 @@ const BRANCHES: [([u8; 4], [bool; 3]); 11] = [
     ([0xd5, 0xdd, 0xd6, 0xde], [true, true, false]),
 ];
 
-/// Words of 64 bits, and words whose low halves matter, to be compared with 1.
-const COMPARED: [(u64, u64); 3] = [
-    (u64::MAX, 0x7_ffff_ffff),
-    (1, 0x7_0000_0001),
-    (2, 0x7_0000_0002),
-];
+/// A word of 64 bits, and a word whose low half matters, to be compared with 1.
+type Words = (u64, u64);
+
+const MINUS_ONE: Words = (u64::MAX, 0x7_ffff_ffff);
+
+const ONE: Words = (1, 0x7_0000_0001);
+
+const TWO: Words = (2, 0x7_0000_0002);
 
 /// Whether the jump, taken or not for these words, leads to the exit.
-fn is_taken(alloc: Global, dst: u64, operand: u64, jump: [u8; 8]) -> Result<bool, Fail> {
+fn is_taken(alloc: Global, dst: u64, operand: u64, jump: [u8; 8]) -> Option<bool> {
     let status = status_over(alloc, dst, operand, u64::from_be_bytes(jump))?;
-    Ok(status == Status::Exited(0))
+    Some(status == Status::Exited(0))
 }
 
-/// Which of a comparison's four jumps are taken for these words, compared with 1.
-fn taken(alloc: Global, opcodes: [u8; 4], whole: u64, half: u64) -> Result<[bool; 4], Fail> {
+/// Whether a comparison's four jumps are all taken for these words, compared with 1, or none is.
+fn branches_if(alloc: Global, opcodes: [u8; 4], (whole, half): Words, holds: bool) -> bool {
     let [imm_64, reg_64, imm_32, reg_32] = opcodes;
-    Ok([
-        is_taken(alloc, whole, 0, [imm_64, 0x01, 1, 0, 1, 0, 0, 0])?,
-        is_taken(alloc, whole, 1, [reg_64, 0x21, 1, 0, 0, 0, 0, 0])?,
-        is_taken(alloc, half, 0, [imm_32, 0x01, 1, 0, 1, 0, 0, 0])?,
-        is_taken(alloc, half, 0x9_0000_0001, [reg_32, 0x21, 1, 0, 0, 0, 0, 0])?,
-    ])
+    let taken = [
+        is_taken(alloc, whole, 0, [imm_64, 0x01, 1, 0, 1, 0, 0, 0]),
+        is_taken(alloc, whole, 1, [reg_64, 0x21, 1, 0, 0, 0, 0, 0]),
+        is_taken(alloc, half, 0, [imm_32, 0x01, 1, 0, 1, 0, 0, 0]),
+        is_taken(alloc, half, 0x9_0000_0001, [reg_32, 0x21, 1, 0, 0, 0, 0, 0]),
+    ];
+    taken == [Some(holds); 4]
 }
 
 /// Whether a comparison's jumps are taken exactly if it holds.
-fn branches_where(alloc: Global, opcodes: [u8; 4], holds: [bool; 3]) -> Result<bool, Fail> {
-    for ((whole, half), holds) in COMPARED.into_iter().zip(holds) {
-        if taken(alloc, opcodes, whole, half)? != [holds, holds, holds, holds] {
-            return Ok(false);
-        }
-    }
-    Ok(true)
+fn branches_where(alloc: Global, opcodes: [u8; 4], holds: [bool; 3]) -> bool {
+    let [for_minus_one, for_one, for_two] = holds;
+    branches_if(alloc, opcodes, MINUS_ONE, for_minus_one)
+        && branches_if(alloc, opcodes, ONE, for_one)
+        && branches_if(alloc, opcodes, TWO, for_two)
 }
 
 #[test]
-fn branches(rt: HostRuntime) -> Result<(), Fail> {
-    for (row, (opcodes, holds)) in BRANCHES.into_iter().enumerate() {
-        assert!(rt; branches_where(rt.alloc(), opcodes, holds)?, "row {row}");
+fn branches(rt: HostRuntime) {
+    for &(opcodes, holds) in &BRANCHES {
+        assert!(rt; branches_where(rt.alloc(), opcodes, holds), "{opcodes:?}");
     }
-    Ok(())
 }
 
 /// Words, opcodes of `==` and `>` for 64 bits and for 32 with the sign-extended immediate -2, and whether they jump.
@@ -93,14 +92,19 @@ const NEGATIVE: [(u64, u8, bool); 5] = [
     (0x0000_0001_0000_0000, 0x65, true),
 ];
 
+/// Whether the jump with the immediate -2 is taken for this word.
+fn jumps_at(alloc: Global, dst: u64, opcode: u8) -> Option<bool> {
+    is_taken(alloc, dst, 0, [opcode, 1, 1, 0, 0xfe, 0xff, 0xff, 0xff])
+}
+
 #[test]
-fn branches_on_a_negative_immediate(rt: HostRuntime) -> Result<(), Fail> {
-    for (row, (dst, opcode, taken)) in NEGATIVE.into_iter().enumerate() {
-        let jump = [opcode, 1, 1, 0, 0xfe, 0xff, 0xff, 0xff];
-        let is_taken = is_taken(rt.alloc(), dst, 0, jump)?;
-        assert!(rt; is_taken == taken, "row {row}");
+fn branches_on_a_negative_immediate(rt: HostRuntime) {
+    for &(dst, opcode, taken) in &NEGATIVE {
+        assert!(rt;
+            jumps_at(rt.alloc(), dst, opcode) == Some(taken),
+            "{dst:x} {opcode:x}"
+        );
     }
-    Ok(())
 }
 
 /// Slots, the steps made and the status, then `pc` and the number of open records.
@@ -117,13 +121,26 @@ const JUMPS: [(&[u64], (u64, Status), (i64, usize)); 9] = [
     (&[0x8510_0000_0000_0080], (2, Status::Fault(F1)), (-0x7fff_ffff, 1)),
 ];
 
-#[test]
-fn jumps_and_calls(rt: HostRuntime) -> Result<(), Fail> {
-    for (row, jump) in JUMPS.iter().enumerate() {
-        let (answer, (_, pc, _, records)) = end_of(rt.alloc(), jump.0, 9)?;
-        assert!(rt; (answer, (pc, records)) == (jump.1, jump.2), "row {row}");
+/// Whether a run has this result, and leaves this `pc` and number of open records.
+fn ends_so(
+    alloc: Global,
+    slots: &[u64],
+    wanted: (u64, Status),
+    (place, depth): (i64, usize),
+) -> bool {
+    match end_of(alloc, slots, 9) {
+        Some((answer, (_, pc, _, records))) => {
+            answer == wanted && pc == place && records == depth
+        }
+        None => false,
     }
-    Ok(())
+}
+
+#[test]
+fn jumps_and_calls(rt: HostRuntime) {
+    for (row, &(slots, wanted, left)) in JUMPS.iter().enumerate() {
+        assert!(rt; ends_so(rt.alloc(), slots, wanted, left), "row {row}");
+    }
 }
 
 /// The callee has a frame 512 bytes higher and its own R6; the caller's are restored at its exit.
@@ -138,29 +155,36 @@ const CALL: [u64; 7] = [
 ];
 
 /// `pc`, R6, R10 and the number of open records after this many steps.
-fn frame_after(alloc: Global, steps: u64) -> Result<(i64, u64, u64, usize), Fail> {
+fn frame_after(alloc: Global, steps: u64) -> Option<(i64, u64, u64, usize)> {
     let machine = run_machine(machine(alloc, &CALL, &[])?, steps)?;
     let r6 = machine.register(Register::R6);
     let r10 = machine.register(Register::R10);
-    Ok((machine.pc(), r6, r10, machine.records().len()))
+    Some((machine.pc(), r6, r10, machine.records().len()))
 }
 
+/// Steps, and `pc`, R6, R10 and the number of open records after them.
+const FRAMES: [(u64, (i64, u64, u64, usize)); 3] = [
+    (2, (3, 7, 0x1_0000_0400, 1)),
+    (4, (5, 9, 0x1_0000_0400, 1)),
+    (9, (2, 7, 0x1_0000_0200, 0)),
+];
+
 #[test]
-fn a_call_keeps_the_callers_registers(rt: HostRuntime) -> Result<(), Fail> {
-    let table = [
-        (2, (3, 7, 0x1_0000_0400, 1)),
-        (4, (5, 9, 0x1_0000_0400, 1)),
-        (9, (2, 7, 0x1_0000_0200, 0)),
-    ];
-    for (steps, frame) in table {
-        assert!(rt; frame_after(rt.alloc(), steps)? == frame, "after {steps}");
+fn a_call_keeps_the_callers_registers(rt: HostRuntime) {
+    for &(steps, frame) in &FRAMES {
+        assert!(rt;
+            frame_after(rt.alloc(), steps) == Some(frame),
+            "after {steps}"
+        );
     }
-    Ok(())
+}
+
+/// The result of a run of at most nine steps after a run of two.
+fn answer_after_two(alloc: Global) -> Option<(u64, Status)> {
+    run_answer(run_machine(machine(alloc, &CALL, &[])?, 2)?, 9)
 }
 
 #[test]
-fn a_run_goes_on(rt: HostRuntime) -> Result<(), Fail> {
-    let machine = run_machine(machine(rt.alloc(), &CALL, &[])?, 2)?;
-    assert!(rt; run_answer(machine, 9)? == (5, Status::Exited(9)));
-    Ok(())
+fn a_run_goes_on(rt: HostRuntime) {
+    assert!(rt; answer_after_two(rt.alloc()) == Some((5, Status::Exited(9))));
 }

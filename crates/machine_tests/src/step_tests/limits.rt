@@ -5,7 +5,6 @@ use super::machine;
 use bpf_machine::Status;
 use std::alloc::Global;
 use std::process::Abort;
-use std::test::Fail;
 
 /// The steps that were taken, what they read, the status, and whether the limit ended the run.
 type End = (u64, u64, Status, bool);
@@ -34,10 +33,10 @@ fn end_of(
     alloc: Global,
     (slots, constants): (&[u64], &[u8]),
     (n, limit): (u64, u64),
-) -> Result<End, Fail> {
+) -> Option<End> {
     let mut machine = machine(alloc, slots, constants)?;
-    let end = machine.run_within(n, limit)?;
-    Ok((end.steps, end.reads, end.status, end.is_held))
+    let end = machine.run_within(n, limit).ok()?;
+    Some((end.steps, end.reads, end.status, end.is_held))
 }
 
 /// Asserts the ends of the runs of a program with these constants.
@@ -46,16 +45,14 @@ fn assert_ends(
     alloc: Global,
     program: (&[u64], &[u8]),
     rows: &[((u64, u64), End)],
-) -> Result<(), Fail> {
+) {
     for (row, (most, end)) in rows.iter().enumerate() {
-        let stands = end_of(alloc, program, *most)? == *end;
-        assert!(rt; stands, "row {row}");
+        assert!(rt; end_of(alloc, program, *most) == Some(*end), "row {row}");
     }
-    Ok(())
 }
 
 #[test]
-fn runs_within_limits(rt: HostRuntime) -> Result<(), Fail> {
-    assert_ends(&rt, rt.alloc(), (SIZE_OF_TEXT, b"\xc3\xa9"), &SIZES)?;
-    assert_ends(&rt, rt.alloc(), (DOUBLES, b"a"), &JOINS)
+fn runs_within_limits(rt: HostRuntime) {
+    assert_ends(&rt, rt.alloc(), (SIZE_OF_TEXT, b"\xc3\xa9"), &SIZES);
+    assert_ends(&rt, rt.alloc(), (DOUBLES, b"a"), &JOINS);
 }
