@@ -39,8 +39,8 @@ fn failed_reads<T: Read + Drop>(inner: T, calls: u64) -> u64 {
 
 #[test]
 fn counts_failed_reads(rt: HostRuntime) {
-    assert_eq!(rt; failed_reads(b"abc".as_slice(), 3), 0);
-    assert_eq!(rt; failed_reads(Broken, 3), 3);
+    assert!(rt; failed_reads(b"abc".as_slice(), 3) == 0);
+    assert!(rt; failed_reads(Broken, 3) == 3);
 }
 
 /// The number of this many writes of these bytes that fail.
@@ -57,9 +57,12 @@ fn failed_writes<T: Write + Drop>(inner: T, bytes: &[u8], calls: u64) -> u64 {
 fn counts_failed_writes(rt: HostRuntime) {
     for (calls, failures) in [(2, 0), (3, 1), (4, 2)] {
         let mut room = [0u8; 3];
-        assert_eq!(rt; failed_writes(room.as_mut_slice(), b"ab", calls), failures);
+        assert!(rt;
+            failed_writes(room.as_mut_slice(), b"ab", calls) == failures,
+            "{calls} calls"
+        );
     }
-    assert_eq!(rt; failed_writes(Broken, b"", 2), 2);
+    assert!(rt; failed_writes(Broken, b"", 2) == 2);
 }
 
 /// A reader whose second read fails.
@@ -102,10 +105,10 @@ fn byte_after(reads: u64) -> Option<Option<u8>> {
 
 #[test]
 fn reads_byte_by_byte(rt: HostRuntime) {
-    assert_eq!(rt; byte_after(0), Some(Some(b'a')));
-    assert_eq!(rt; byte_after(1), None);
-    assert_eq!(rt; byte_after(2), Some(Some(b'b')));
-    assert_eq!(rt; byte_after(3), Some(None));
+    assert!(rt; byte_after(0) == Some(Some(b'a')));
+    assert!(rt; byte_after(1) == None);
+    assert!(rt; byte_after(2) == Some(Some(b'b')));
+    assert!(rt; byte_after(3) == Some(None));
 }
 
 /// Whether exactly these bytes of `abcde` are written, two bytes at a time, if the write with

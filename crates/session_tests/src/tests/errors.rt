@@ -38,12 +38,12 @@ const TABLE_ERRORS: [(TableError, &str, &str); 4] = [
 #[test]
 fn errors_have_codes_and_words(rt: HostRuntime) -> Result<(), Fail> {
     for (error, code, words) in &SESSION_ERRORS {
-        assert_eq!(rt; error.code(), *code);
-        assert!(rt; has_words(rt.alloc(), error, words)?, "{words}");
+        let has_code = error.code() == *code;
+        assert!(rt; has_code && has_words(rt.alloc(), error, words)?, "{code}");
     }
     for (error, code, words) in &TABLE_ERRORS {
-        assert_eq!(rt; error.code(), *code);
-        assert!(rt; has_words(rt.alloc(), error, words)?, "{words}");
+        let has_code = error.code() == *code;
+        assert!(rt; has_code && has_words(rt.alloc(), error, words)?, "{code}");
     }
     Ok(())
 }

@@ -22,20 +22,21 @@ const REPLAYED: [(u64, u64); 9] = [
     (98_304, 0),
 ];
 
-/// The first of these places that is shown with a different number of steps.
-fn wrong_replay(history: &mut Past<Plain>) -> Result<Option<u64>, AllocError> {
-    for &(place, steps) in &REPLAYED {
+/// The number of these places before the first that is shown with a different number of steps.
+fn right_replays(history: &mut Past<Plain>) -> Result<usize, AllocError> {
+    for (row, &(place, steps)) in REPLAYED.iter().enumerate() {
         history.go(place)?;
         if history.replayed() != steps {
-            return Ok(Some(place));
+            return Ok(row);
         }
     }
-    Ok(None)
+    Ok(9)
 }
 
 #[test]
 fn replays_from_the_nearest(rt: HostRuntime) -> Result<(), Fail> {
     let mut history = begun(rt.alloc(), COUNTS)?;
-    assert_eq!(rt; wrong_replay(&mut history)?, None);
+    let right = right_replays(&mut history)?;
+    assert!(rt; right == 9, "row {right}");
     Ok(())
 }
