@@ -19,7 +19,7 @@ fn outcome(alloc: Global, spec: &str) -> Result<String, Fail> {
 /// Asserts the outcome for the policy with this specification.
 fn assert_outcome(rt: &impl Abort, alloc: Global, spec: &str, want: &str) -> Result<(), Fail> {
     let found = outcome(alloc, spec)?;
-    assert_eq!(rt; found.as_str(), want, "{spec}");
+    assert!(rt; found.as_str() == want, "{spec}");
     Ok(())
 }
 

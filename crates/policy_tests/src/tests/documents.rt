@@ -27,7 +27,7 @@ fn assert_refusal(
     want: &str,
 ) -> Result<(), AllocError> {
     let text = policy_text(alloc, spec)?;
-    assert_eq!(rt; named(alloc, text.as_str())?.as_str(), want, "{spec}");
+    assert!(rt; named(alloc, text.as_str())?.as_str() == want, "{spec}");
     Ok(())
 }
 
@@ -93,7 +93,7 @@ const DOCUMENTS: &str = r#"{¦K1
 fn documents(rt: HostRuntime) -> Result<(), Fail> {
     for line in DOCUMENTS.lines() {
         let (text, want) = cells(line);
-        assert_eq!(rt; named(rt.alloc(), text)?.as_str(), want, "{text}");
+        assert!(rt; named(rt.alloc(), text)?.as_str() == want, "{text}");
     }
     Ok(())
 }
@@ -107,13 +107,7 @@ fn refusal_of_nested(alloc: Global, n: usize) -> Result<Option<PolicyError>, All
 
 #[test]
 fn nested_documents(rt: HostRuntime) -> Result<(), Fail> {
-    assert_eq!(rt;
-        refusal_of_nested(rt.alloc(), 127)?,
-        Some(PolicyError::NotAPolicy)
-    );
-    assert_eq!(rt;
-        refusal_of_nested(rt.alloc(), 200)?,
-        Some(PolicyError::NotJson)
-    );
+    assert!(rt; refusal_of_nested(rt.alloc(), 127)? == Some(PolicyError::NotAPolicy));
+    assert!(rt; refusal_of_nested(rt.alloc(), 200)? == Some(PolicyError::NotJson));
     Ok(())
 }

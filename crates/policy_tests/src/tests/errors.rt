@@ -40,12 +40,12 @@ const POLICY_ERRORS: [(PolicyError, &str, &str); 7] = [
 #[test]
 fn errors_have_codes_and_words(rt: HostRuntime) -> Result<(), Fail> {
     for (error, code, words) in &CODE_ERRORS {
-        assert_eq!(rt; error.code(), *code);
-        assert!(rt; has_words(rt.alloc(), error, words)?, "{words}");
+        let has_code = error.code() == *code;
+        assert!(rt; has_code && has_words(rt.alloc(), error, words)?, "{code}");
     }
     for (error, code, words) in &POLICY_ERRORS {
-        assert_eq!(rt; error.code(), *code);
-        assert!(rt; has_words(rt.alloc(), error, words)?, "{words}");
+        let has_code = error.code() == *code;
+        assert!(rt; has_code && has_words(rt.alloc(), error, words)?, "{code}");
     }
     Ok(())
 }

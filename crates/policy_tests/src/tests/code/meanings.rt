@@ -255,7 +255,7 @@ fn end_of(alloc: Global, text: &str) -> Option<Status> {
 fn assert_rows(rt: &impl Abort, alloc: Global, rows: &[(&str, u64)]) {
     for (text, reference) in rows {
         let found = end_of(alloc, text);
-        assert_eq!(rt; found, Some(Status::Exited(*reference)), "row {text}");
+        assert!(rt; found == Some(Status::Exited(*reference)), "row {text}");
     }
 }
 

@@ -112,7 +112,7 @@ fn slots_of(alloc: Global, text: &str) -> Option<usize> {
 fn variables_leave_their_values(rt: HostRuntime) {
     for (text, reference) in &USES {
         let found = end_with_variables(rt.alloc(), text);
-        assert_eq!(rt; found, Some(Status::Exited(*reference)), "row {text}");
+        assert!(rt; found == Some(Status::Exited(*reference)), "row {text}");
     }
 }
 
@@ -121,13 +121,13 @@ fn a_field_that_is_kept_is_walked_once(rt: HostRuntime) {
     for (text, slots, steps, reference) in &KEPT {
         let before = end_on_fields(rt.alloc(), text, steps - 1);
         let behind = end_on_fields(rt.alloc(), text, *steps);
-        assert_eq!(rt; slots_of(rt.alloc(), text), Some(*slots), "row {text}");
-        assert_eq!(rt; before, Some(Status::Running), "row {text}");
-        assert_eq!(rt; behind, Some(Status::Exited(*reference)), "row {text}");
+        assert!(rt; slots_of(rt.alloc(), text) == Some(*slots), "row {text}");
+        assert!(rt; before == Some(Status::Running), "row {text}");
+        assert!(rt; behind == Some(Status::Exited(*reference)), "row {text}");
     }
 }
 
 #[test]
 fn exists_leaves_at_the_first_item(rt: HostRuntime) {
-    assert_eq!(rt; end_of_search(rt.alloc()), Some(Status::Exited(3)));
+    assert!(rt; end_of_search(rt.alloc()) == Some(Status::Exited(3)));
 }
