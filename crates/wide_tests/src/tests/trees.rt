@@ -111,9 +111,8 @@ fn keeps_the_limits(rt: HostRuntime) -> Result<(), Fail> {
     for (unit, count, more, cause) in &LIMITS {
         let text = repeated(rt.alloc(), unit, *count, more)?;
         let wanted = cause.map(Text);
-        assert_eq!(rt;
-            read(rt.alloc(), text.as_str()).err(),
-            wanted,
+        assert!(rt;
+            read(rt.alloc(), text.as_str()).err() == wanted,
             "row {unit} {count}"
         );
     }
@@ -124,7 +123,7 @@ fn keeps_the_limits(rt: HostRuntime) -> Result<(), Fail> {
 fn refuses_texts(rt: HostRuntime) -> Result<(), Fail> {
     for (text, error) in &REFUSED {
         let found = read(rt.alloc(), text).err();
-        assert_eq!(rt; found, Some(*error), "row {text}");
+        assert!(rt; found == Some(*error), "row {text}");
     }
     Ok(())
 }
