@@ -27,7 +27,7 @@ fn a_gate_decides(rt: HostRuntime) {
     let mut room = [0u8; 256];
     let mut len = 9;
     let made = celbpf_gate_new(rt.alloc(), &mut place, POLICY, &mut room, &mut len);
-    assert_eq!(rt; (made, len), (0, 0));
+    assert!(rt; (made, len) == (0, 0));
     let status = celbpf_gate_decide(
         rt.alloc(),
         &mut place,
@@ -38,7 +38,7 @@ fn a_gate_decides(rt: HostRuntime) {
         &mut room,
         &mut len,
     );
-    assert_eq!(rt; status, 1);
+    assert!(rt; status == 1);
     assert!(rt; room.get(..len) == Some(RESPONSE));
     drop(place.into_gate());
 }
@@ -61,7 +61,7 @@ fn a_gate_decides_within_reads(rt: HostRuntime) {
         &mut room,
         &mut len,
     );
-    assert_eq!(rt; status, 12);
+    assert!(rt; status == 12);
     assert!(rt; room.get(..len) == Some(&b"celbpf: N7\n"[..]));
     let status = celbpf_gate_decide_within(
         rt.alloc(),
@@ -74,7 +74,7 @@ fn a_gate_decides_within_reads(rt: HostRuntime) {
         &mut room,
         &mut len,
     );
-    assert_eq!(rt; status, 1);
+    assert!(rt; status == 1);
     assert!(rt; room.get(..len) == Some(RESPONSE));
     drop(place.into_gate());
 }
@@ -94,7 +94,7 @@ fn a_review_is_decided_within_reads(rt: HostRuntime) {
         &mut room,
         &mut len,
     );
-    assert_eq!(rt; status, 12);
+    assert!(rt; status == 12);
     assert!(rt; room.get(..len) == Some(&b"celbpf: N7\n"[..]));
 }
 
@@ -105,7 +105,7 @@ fn a_refused_policy_keeps_the_gate(rt: HostRuntime) {
     let mut len = 0;
     celbpf_gate_new(rt.alloc(), &mut place, POLICY, &mut room, &mut len);
     let made = celbpf_gate_new(rt.alloc(), &mut place, b"[", &mut room, &mut len);
-    assert_eq!(rt; made, 2);
+    assert!(rt; made == 2);
     assert!(rt; room.get(..len) == Some(&b"celbpf: K1\n"[..]));
     celbpf_gate_free(rt.alloc(), &mut place);
     celbpf_gate_free(rt.alloc(), &mut place);
@@ -119,7 +119,7 @@ fn a_refused_policy_keeps_the_gate(rt: HostRuntime) {
         &mut room,
         &mut len,
     );
-    assert_eq!(rt; (status, len), (10, 0));
+    assert!(rt; (status, len) == (10, 0));
     drop(place.into_gate());
 }
 
@@ -137,7 +137,7 @@ fn a_review_needs_room(rt: HostRuntime) {
         &mut room,
         &mut len,
     );
-    assert_eq!(rt; (status, len), (8, RESPONSE.len()));
+    assert!(rt; (status, len) == (8, RESPONSE.len()));
     assert!(rt; room == [7u8; 8]);
 }
 
@@ -146,7 +146,7 @@ fn an_image_is_compiled(rt: HostRuntime) {
     let mut room = [0u8; 4096];
     let mut len = 0;
     let status = celbpf_compile(rt.alloc(), POLICY, &mut room, &mut len);
-    assert_eq!(rt; (status, celbpf_version()), (0, 1));
+    assert!(rt; (status, celbpf_version()) == (0, 1));
     assert!(rt; room.starts_with(b"CELBPF02"));
 }
 
@@ -167,10 +167,10 @@ fn a_wide_gate_decides(rt: HostRuntime) {
     let mut room = [0u8; 256];
     let mut len = 9;
     let made = celbpf_gate_new(rt.alloc(), &mut place, WIDE, &mut room, &mut len);
-    assert_eq!(rt; made, 3);
+    assert!(rt; made == 3);
     assert!(rt; room.get(..len) == Some(&b"celbpf: K6 validation 0 P4 at 7\n"[..]));
     let made = celbpf_gate_new_wide(rt.alloc(), &mut place, WIDE, &mut room, &mut len);
-    assert_eq!(rt; (made, len), (0, 0));
+    assert!(rt; (made, len) == (0, 0));
     let status = celbpf_gate_decide(
         rt.alloc(),
         &mut place,
@@ -181,10 +181,10 @@ fn a_wide_gate_decides(rt: HostRuntime) {
         &mut room,
         &mut len,
     );
-    assert_eq!(rt; status, 1);
+    assert!(rt; status == 1);
     assert!(rt; room.get(..len) == Some(WIDE_RESPONSE));
     let made = celbpf_gate_new_wide(rt.alloc(), &mut place, UNTOLD, &mut room, &mut len);
-    assert_eq!(rt; made, 3);
+    assert!(rt; made == 3);
     assert!(rt; room.get(..len) == Some(&b"celbpf: K6 message 0 W5 url\n"[..]));
     drop(place.into_gate());
 }
@@ -204,7 +204,7 @@ fn a_review_is_decided_by_a_wide_policy(rt: HostRuntime) {
         &mut room,
         &mut len,
     );
-    assert_eq!(rt; status, 1);
+    assert!(rt; status == 1);
     assert!(rt; room.get(..len) == Some(WIDE_RESPONSE));
     let status = celbpf_review_wide(
         rt.alloc(),
@@ -217,6 +217,6 @@ fn a_review_is_decided_by_a_wide_policy(rt: HostRuntime) {
         &mut room,
         &mut len,
     );
-    assert_eq!(rt; status, 2);
+    assert!(rt; status == 2);
     assert!(rt; room.get(..len) == Some(&b"celbpf: K2\n"[..]));
 }
