@@ -8,7 +8,9 @@ from pathlib import Path
 from typing import Any, Iterator, Optional, Union
 
 from . import yaml_words
+from .aliases import DEEPEST, refuse_large
 from .entry import Stop
+from .vapctl.numbers import NotJson, sent
 
 try:
     yaml: Any = importlib.import_module("yaml")
@@ -23,9 +25,8 @@ NOT_RESOLVED = ("tag:yaml.org,2002:timestamp", "tag:yaml.org,2002:int", "tag:yam
 LETTERS = {"y": True, "n": False}
 # the tag of the key `<<`, which may be there twice
 MERGE = "tag:yaml.org,2002:merge"
-# the most lists and maps that are inside one another; only texts with so many brackets, or a line that begins with so
-# many indentations, may have more
-DEEPEST = 300
+# only texts with so many brackets, or a line that begins with so many indentations, may have more than DEEPEST lists and
+# maps inside one another
 MAYBE_DEEP = re.compile(r"(?:[\[{][^\[{]*){300}|^[ \-?:]{300}", re.MULTILINE)
 INT = re.compile(r"[-+]?(?:0|[1-9][0-9_]*|0x[0-9a-fA-F_]+|0o?[0-7_]+|0b[01_]+)$")
 FLOAT = re.compile(r"[-+]?(?:\.[0-9]+|[0-9]+(?:\.[0-9]*)?)(?:[eE][-+]?[0-9]+)?$|[-+]?\.(?:inf|Inf|INF)$|\.(?:nan|NaN|NAN)$")
@@ -137,14 +138,19 @@ def yaml_of(text: str, path: Union[str, Path]) -> list[Any]:
     try:
         if deep := too_deep(text):
             raise Unreadable(f"{path}: it is nested too deep at line {deep.line + 1} column {deep.column + 1}")
-        return [value for _, value in yaml_values(text, loader()) if value is not None]
+        found = [value for _, value in yaml_values(text, loader()) if value is not None]
+        for value in found:
+            refuse_large(value)
+            # what JSON does not have is refused here; numbers and keys stay as they are
+            sent(value)
+        return found
     except yaml.YAMLError as why:
         mark = getattr(why, "problem_mark", None)
         words = yaml_words.told(text, why)
         fault = yaml_words.placed(words, f"line {mark.line + 1} column {mark.column + 1}") if mark else words
         raise Unreadable(f"{path}: {fault}") from why
-    except ValueError as why:
-        raise Unreadable(f"{path}: {why}") from why
+    except (ValueError, TypeError, OverflowError, NotJson) as why:
+        raise Unreadable(f"{path}: {str(why).splitlines()[0]}") from why
     except RecursionError as why:
         raise Unreadable(f"{path}: it is nested too deep") from why
 

@@ -27,7 +27,7 @@ from .. import entry
 from ..asking.program import GIVEN, tested
 from ..entry import usage_of
 from ..home import DATA, EXAMPLES, ROOT
-from ..tests.vapctl_broken import INPUTS, commands
+from ..tests.vapctl_broken import INPUTS, LAUNCHES, TESTS, commands, launches, tests_of
 from ..tests.vapctl_corpus import Corpus, Finding
 from ..tests.vapctl_schemas import SCHEMAS, junit_faults
 from ..tests.vapctl_tables import compared, tables_of
@@ -206,10 +206,14 @@ def run_broken(runs: Runs, folder: Path) -> None:
     for name, text in INPUTS.items():
         path = folder / name
         path.write_bytes(text)
+        path.with_name(TESTS).write_bytes(tests_of(path))
         for words in commands(path):
             status, said = forked(words, text, folder)
             is_right = status in (0, 1, 2, 3) and not any(word in said for word in FAILURES)
             runs.tell(f"vapctl {' '.join(map(str, words))}", is_right, f"{said[-2000:]}[{status}]")
+        status, said = forked(["debug", "--dap"], launches(path), folder)
+        is_right = status == 0 and not any(word in said for word in FAILURES) and said.count('"command":"launch"') == LAUNCHES
+        runs.tell(f"vapctl debug --dap: launches of {name}", is_right, f"{said[-2000:]}[{status}]")
 
 
 def words() -> argparse.Namespace:

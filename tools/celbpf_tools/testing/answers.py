@@ -189,7 +189,7 @@ class Programs:
         if ran.returncode == 0 and len(answers) == len(texts):
             return [answer_of(line) for line in answers]
         if ran.returncode == 2 and "--cluster" in words:
-            return [Unreadable("this gatekeeper has no --cluster")] * len(texts)
+            return [Unreadable(f"the gatekeeper does not take its words: {ran.stderr.strip()}")] * len(texts)
         return [Answer(refusal=refusal_of(ran, words))] * len(texts)
 
 

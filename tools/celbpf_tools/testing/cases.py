@@ -10,6 +10,8 @@ NAMES = ("tests.yaml", "tests.yml", "tests.json")
 POLICIES = ("policy.json", "policy.yaml", "policy.yml")
 # documents that a case has, or its file for all its cases
 BESIDE = ("policy", "namespace", "params", "cluster", "steps")
+# what a cluster's state has
+OF_STATE = ("policy", "namespace", "params")
 REVIEW = ("object", "oldObject", "operation", "request")
 WANTED = ("expect", "message", "contains", "refusal")
 OUTCOMES = ("allowed", "denied")
@@ -88,6 +90,8 @@ def case_of(path: Path, place: int, given: Any, shared: dict[str, Any]) -> Case:
     if given.get("operation", "CREATE") not in OPERATIONS:
         raise Broken(f"{where}: operation is {given['operation']!r}, and not {', '.join(OPERATIONS)}")
     beside = {**shared, **{key: given[key] for key in BESIDE if given.get(key) is not None}}
+    if others := [key for key in OF_STATE if key in beside] if "cluster" in beside else []:
+        raise Broken(f"{where}: cluster and {others[0]}: a cluster's state has its own")
     if "policy" not in beside and "cluster" not in beside:
         beside["policy"] = policy_beside(path)
     made = Case(given.get("name", f"case {place}"), path, review_of(where, given), beside)

@@ -76,5 +76,10 @@ def text_of_review(review: Any, uid: str, folder: Path) -> str:
 
 
 def compact(value: Any) -> str:
-    """A value as JSON on one line."""
-    return json.dumps(value, ensure_ascii=False, separators=(",", ":"))
+    """A value as JSON on one line. A half of a pair of surrogates, which UTF-8 does not have, is an escape."""
+    text = json.dumps(value, ensure_ascii=False, separators=(",", ":"))
+    try:
+        text.encode()
+    except UnicodeEncodeError:
+        return json.dumps(value, separators=(",", ":"))
+    return text

@@ -63,6 +63,16 @@ class Yaml(Files):
     def test_place_of_a_yaml_fault(self) -> None:
         self.assertRegex(self.refused(self.file("a.yaml", "a: [1\nb: 2\n")), r"^a.yaml: .* at line 2 column 2$")
 
+    def test_what_aliases_make_too_large(self) -> None:
+        lines = ["a0: &a0 [1, 1]", *(f"a{n}: &a{n} [*a{n - 1}, *a{n - 1}]" for n in range(1, 60))]
+        self.assertEqual(self.refused(self.file("a.yaml", "\n".join(lines))), "a.yaml: aliases make it larger than 5,000,000 values")
+        self.assertEqual(self.refused(self.file("b.yaml", "a: &a [*a]\n")), "b.yaml: a value has itself as a part, by an alias")
+
+    def test_what_json_does_not_have(self) -> None:
+        for text, why in [("a: [!!timestamp 2026-11-26]\n", "a[0] is a date"), ("a: !!set {x}\n", "a is a set"), ("a: !!binary AA==\n", "a is a bytes")]:
+            with self.subTest(text):
+                self.assertEqual(self.refused(self.file("a.yaml", text)), f"a.yaml: {why}, which JSON does not have")
+
     def test_a_repeated_key(self) -> None:
         path = self.file("a.yaml", "a: 1\nb:\n- {c: 1, d: 2}\n- c: 1\n  'c': 2\n")
         self.assertEqual(self.refused(path), "a.yaml: the key 'c' of line 4 is repeated at line 5 column 3")

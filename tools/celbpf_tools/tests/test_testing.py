@@ -18,7 +18,7 @@ from ..testing.answers import Answer, Asked, Programs, answer_of, failures
 from ..testing.cases import Broken, read
 from ..testing.coverage import items_of, states
 from ..testing.output import Result
-from ..testing.reviews import review_of_parts
+from ..testing.reviews import compact, review_of_parts
 from .test_documents import Files
 
 
@@ -46,11 +46,17 @@ class Reading(Files):
             (case % '{"object": {}, "expect": true}', "case 0: expect is not a text"),
             (case % '{"object": {}, "operation": "create", "expect": "allowed"}',
              "case 0: operation is 'create', and not CREATE, UPDATE, DELETE, CONNECT"),
+            (case % '{"object": {}, "cluster": "s.json", "expect": "allowed"}', "case 0: cluster and policy: a cluster's state has its own"),
+            ('{"cluster": "s.json", "cases": [{"object": {}, "params": {}, "expect": "allowed"}]}',
+             "case 0: cluster and params: a cluster's state has its own"),
             ('{"cases": [{"object": {}, "expect": "allowed"}]}',
              "no `policy`, and none of policy.json, policy.yaml, policy.yml beside it"),
         ]:
             with self.subTest(text):
                 self.assertEqual(self.broken(text), why)
+
+    def test_a_half_of_a_pair_of_surrogates_is_an_escape(self) -> None:
+        self.assertEqual((compact({"a": "é"}), compact({"a": "\ud800"})), ('{"a":"é"}', '{"a":"\\ud800"}'))
 
     def test_a_review_of_an_object(self) -> None:
         thing = {"apiVersion": "apps/v1", "kind": "Deployment", "metadata": {"name": "web", "namespace": "shop"}}

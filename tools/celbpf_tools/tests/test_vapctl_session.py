@@ -104,13 +104,15 @@ class OfPolicy(unittest.TestCase):
     def ask(self, line: str) -> list[str]:
         """Stands in for the process."""
         slot = line.split()[-1]
-        return {"b": [f"break {slot}"], "s": [f"step {slot} pc {slot} running"]}[line[0]]
+        verdict = ["verdict 3 1", "validation 0 1", "message 0 9"]
+        return {"b": [f"break {slot}"], "s": [f"step {slot} pc {slot} running"], "w": verdict}[line[0]]
 
     def test_parts(self) -> None:
         self.assertEqual(self.asker.answer("p"), ["    0 validation 0: object.spec.replicas <= 3"])
         self.assertEqual(self.asker.answer("s 9"), ["step 9 pc 9 running  validation 0: object.spec.replicas"])
         self.assertEqual(self.asker.answer("b validation 0"), ["break 0  validation 0: object"])
         self.assertEqual(self.asker.answer("b"), ["break 0  validation 0: object"])
+        self.assertEqual(self.asker.answer("w"), ["verdict 3 1: denied", "validation 0 1: false", "message 0 9"])
         self.assertEqual(self.asker.answer("b message 7"), ["b message 7: no part is called message 7; `p` lists them"])
 
 

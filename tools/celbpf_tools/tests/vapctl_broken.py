@@ -1,5 +1,6 @@
 """Broken inputs, and the runs of each subcommand on one."""
 
+import json
 import os
 from collections.abc import Iterator
 from pathlib import Path
@@ -68,6 +69,31 @@ INPUTS = {
 GOOD = EXAMPLES / "replicas" / "policy.json"
 THING = DATA / "vapctl" / "manifests" / "02-too-many.yaml"
 REVIEW_FILE = EXAMPLES / "replicas" / "five.review.json"
+# how many launches an editor makes of an input
+LAUNCHES = 6
+# the name of the test file that names an input
+TESTS = "tests-of-input.json"
+
+
+def tests_of(path: Path) -> bytes:
+    """A test file with a case for each place that may name a file, each with this one."""
+    thing: dict[str, object] = {"policy": str(GOOD), "object": {}, "expect": "allowed"}
+    review: dict[str, object] = {"policy": str(GOOD), "review": str(path), "expect": "allowed"}
+    state: dict[str, object] = {"cluster": str(path), "object": {}, "expect": "allowed"}
+    named = [thing | {key: str(path)} for key in ("policy", "object", "oldObject", "params", "namespace")]
+    return json.dumps({"cases": [*named, state, review]}).encode()
+
+
+def launches(path: Path) -> bytes:
+    """Messages of an editor that launches a file in each place that takes one, and then disconnects."""
+    given: list[tuple[str, dict[str, object]]] = [("initialize", {})]
+    files: dict[str, object] = {"policy": GOOD, "review": REVIEW_FILE}
+    for key in ("policy", "review", "namespace", "params"):
+        given += [("launch", {**files, key: path}), ("terminate", {})]
+    given += [("launch", {"image": path}), ("terminate", {}), ("launch", {**files, "review": path, "object": "a", "profile": True}), ("disconnect", {})]
+    texts = [json.dumps({"seq": place, "type": "request", "command": name, "arguments": words}, default=str)
+             for place, (name, words) in enumerate(given, 1)]
+    return b"".join(b"Content-Length: %d\r\n\r\n%s" % (len(text), text.encode()) for text in texts)
 
 
 def commands(path: Path) -> Iterator[list[object]]:
@@ -84,6 +110,8 @@ def commands(path: Path) -> Iterator[list[object]]:
     yield ["state", "--from", path]
     yield ["test", path]
     yield ["test", "--coverage", path, "-o", "junit"]
+    yield ["test", "--coverage", path.with_name(TESTS), "-o", "tap"]
+    yield ["why", "--case", "case 0", path.with_name(TESTS)]
     yield ["why", GOOD, path]
     yield ["why", path, THING]
     yield ["why", "--params", path, "--namespace-object", path, GOOD, THING]

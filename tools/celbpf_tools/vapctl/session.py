@@ -10,7 +10,7 @@ from typing import Callable
 from ..dap.capabilities import FAULTS
 from ..dap.child import REFUSALS, Child, Ended, Refused, place_in
 from ..dap.parts import Parts, on_one_line
-from ..dap.variables import count_of_values
+from ..dap.variables import OUTCOMES, TRUTHS, count_of_values
 from ..entry import Stop
 from .refusals import words_of_refusal
 from .reports.texts import on_line
@@ -45,6 +45,8 @@ LETTERS = {
     "H": "H is a whole number without leading zeros", "A": "A is 0x and 1 to 16 hex digits in lower case", "L": "L is from 1 to 256",
 }
 CHANGED = re.compile(rf"(break|clear) {NUMBER}")
+# of a policy's verdict, the line of the outcome and that of a validation, with what their numbers mean
+VERDICTS = {re.compile(r"verdict (\d+) \d+"): OUTCOMES, re.compile(r"validation \d+ (\d+)"): TRUTHS}
 NO_PARTS = "no parts are known: this is an image alone, or its parts are not mapped"
 
 
@@ -116,6 +118,9 @@ class Asker:
         """A line of the session, with what it means."""
         if said in REFUSALS:
             return [f"{said}: {REFUSALS[said]}"]
+        for form, meanings in VERDICTS.items() if self.parts else ():
+            if (found := form.fullmatch(said)) and found[1] in meanings:
+                return [f"{said}: {meanings[found[1]]}"]
         if found := CHANGED.fullmatch(said):
             (self.breakpoints.add if found[1] == "break" else self.breakpoints.discard)(int(found[2]))
             return [f"{said}{self.named(int(found[2]))}"]
