@@ -56,15 +56,23 @@ const TYPE_ERRORS: [(TypeError, &str, &str); 3] = [
 ];
 
 #[test]
-fn errors_have_codes_and_words(rt: HostRuntime) {
+fn errors_of_texts_have_codes_and_words(rt: HostRuntime) {
     for (error, code, words) in &READ_ERRORS {
         let has_code = error.code() == *code;
         assert!(rt; has_code && has_words(rt.alloc(), error, words), "{code}");
     }
+}
+
+#[test]
+fn errors_of_macros_have_codes_and_words(rt: HostRuntime) {
     for (error, code, words) in &MACRO_ERRORS {
         let has_code = error.code() == *code;
         assert!(rt; has_code && has_words(rt.alloc(), error, words), "{code}");
     }
+}
+
+#[test]
+fn errors_of_types_have_codes_and_words(rt: HostRuntime) {
     for (error, code, words) in &TYPE_ERRORS {
         let has_code = error.code() == *code;
         assert!(rt; has_code && has_words(rt.alloc(), error, words), "{code}");

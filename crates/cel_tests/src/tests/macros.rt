@@ -69,7 +69,11 @@ fn has_text(alloc: Global, core: &Core, wanted: &str) -> bool {
 /// Whether the text's expanded expression has this debug text.
 fn is_spelled(alloc: Global, text: &str, wanted: &str) -> bool {
     match core(alloc, text) {
-        Some(core) => has_text(alloc, &core, wanted),
+        Some(core) => {
+            let holds = has_text(alloc, &core, wanted);
+            drop(core);
+            holds
+        }
         None => false,
     }
 }

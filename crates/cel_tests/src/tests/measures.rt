@@ -82,7 +82,11 @@ const DEPTHS: [(&str, u64); 25] = [
 /// Whether the text's expression has these nodes and this need.
 fn has_measures(alloc: Global, text: &str, count: u64, words: u64) -> bool {
     match core(alloc, text) {
-        Some(core) => nodes(&core) == count && need(&core) == words,
+        Some(core) => {
+            let holds = nodes(&core) == count && need(&core) == words;
+            drop(core);
+            holds
+        }
         None => false,
     }
 }
@@ -106,7 +110,11 @@ fn is_deep(alloc: Global, core: &Core, wanted: u64) -> bool {
 /// Whether a variable with the text's expression has this depth.
 fn has_depth(alloc: Global, text: &str, wanted: u64) -> bool {
     match core(alloc, text) {
-        Some(core) => is_deep(alloc, &core, wanted),
+        Some(core) => {
+            let holds = is_deep(alloc, &core, wanted);
+            drop(core);
+            holds
+        }
         None => false,
     }
 }

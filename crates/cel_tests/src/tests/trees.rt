@@ -80,7 +80,11 @@ fn has_text(alloc: Global, tree: &Expr, wanted: &str) -> bool {
 /// Whether the tree of the text has this debug text.
 fn is_spelled(alloc: Global, text: &str, wanted: &str) -> bool {
     match read(alloc, text) {
-        Ok(tree) => has_text(alloc, &tree, wanted),
+        Ok(tree) => {
+            let holds = has_text(alloc, &tree, wanted);
+            drop(tree);
+            holds
+        }
         Err(_) => false,
     }
 }

@@ -316,7 +316,10 @@ fn answer_for(alloc: Global, core: &Core) -> Option<Answer> {
 
 /// The type of the text's expression in that scope, or its error.
 fn answer(alloc: Global, text: &str) -> Option<Answer> {
-    answer_for(alloc, &core(alloc, text)?)
+    let core = core(alloc, text)?;
+    let found = answer_for(alloc, &core);
+    drop(core);
+    found
 }
 
 /// Whether the text's expression has this type or error.

@@ -8,6 +8,7 @@ use crate::tests::types::grids::operators::{COMPUTED, EQUAL, JOINED, ORDERED};
 use crate::tests::types::grids::singles::SINGLES;
 use crate::tests::types::grids::texts::TESTED;
 use std::alloc::{AllocError, Global};
+use std::process::Abort;
 
 mod collections;
 mod logic;
@@ -28,37 +29,49 @@ type Grid = [Line; 7];
 /// The texts before two operands, between them and after them.
 type Form = (&'static str, &'static str, &'static str);
 
-/// The forms of two operands, with their results.
-const FORMS: [(Form, &Grid); 28] = [
-    (("", " + ", ""), &JOINED),
-    (("", " - ", ""), &COMPUTED),
-    (("", " * ", ""), &COMPUTED),
-    (("", " / ", ""), &COMPUTED),
-    (("", " % ", ""), &COMPUTED),
-    (("", " == ", ""), &EQUAL),
-    (("", " != ", ""), &EQUAL),
-    (("", " < ", ""), &ORDERED),
-    (("", " <= ", ""), &ORDERED),
-    (("", " > ", ""), &ORDERED),
-    (("", " >= ", ""), &ORDERED),
-    (("", " in ", ""), &MEMBERS),
-    (("", "[", "]"), &INDEXED),
-    (("{", ": ", "}"), &PAIRED),
-    (("", " && ", ""), &JUDGED),
-    (("", " || ", ""), &JUDGED),
-    (("true ? ", " : ", ""), &BRANCHES),
-    (("object ? ", " : ", ""), &BRANCHES),
-    (("", ".startsWith(", ")"), &TESTED),
-    (("", ".endsWith(", ")"), &TESTED),
-    (("", ".contains(", ")"), &TESTED),
-    (("", ".all(x, ", ")"), &QUANTIFIED),
-    (("", ".exists(x, ", ")"), &QUANTIFIED),
-    (("", ".exists_one(x, ", ")"), &QUANTIFIED),
-    (("", ".filter(x, ", ")"), &SELECTED),
-    (("", ".map(x, ", ", 1)"), &SELECTED),
-    (("", ".map(x, ", ")"), &MAPPED),
-    (("", ".map(x, true, ", ")"), &MAPPED),
+const SUMS: [Form; 1] = [("", " + ", "")];
+
+const COMPUTATIONS: [Form; 4] = [
+    ("", " - ", ""),
+    ("", " * ", ""),
+    ("", " / ", ""),
+    ("", " % ", ""),
 ];
+
+const EQUALITIES: [Form; 2] = [("", " == ", ""), ("", " != ", "")];
+
+const ORDERS: [Form; 4] = [
+    ("", " < ", ""),
+    ("", " <= ", ""),
+    ("", " > ", ""),
+    ("", " >= ", ""),
+];
+
+const MEMBERSHIPS: [Form; 1] = [("", " in ", "")];
+
+const INDICES: [Form; 1] = [("", "[", "]")];
+
+const PAIRS: [Form; 1] = [("{", ": ", "}")];
+
+const CONNECTIVES: [Form; 2] = [("", " && ", ""), ("", " || ", "")];
+
+const CONDITIONALS: [Form; 2] = [("true ? ", " : ", ""), ("object ? ", " : ", "")];
+
+const TEXT_TESTS: [Form; 3] = [
+    ("", ".startsWith(", ")"),
+    ("", ".endsWith(", ")"),
+    ("", ".contains(", ")"),
+];
+
+const QUANTIFIERS: [Form; 3] = [
+    ("", ".all(x, ", ")"),
+    ("", ".exists(x, ", ")"),
+    ("", ".exists_one(x, ", ")"),
+];
+
+const SELECTIONS: [Form; 2] = [("", ".filter(x, ", ")"), ("", ".map(x, ", ", 1)")];
+
+const TRANSFORMS: [Form; 2] = [("", ".map(x, ", ")"), ("", ".map(x, true, ", ")")];
 
 /// The form with these operands.
 fn filled(alloc: Global, form: Form, first: &str, second: &str) -> Result<String, AllocError> {
@@ -103,11 +116,43 @@ fn types_of_single_operands(rt: HostRuntime) {
     }
 }
 
-#[test]
-fn types_of_two_operands(rt: HostRuntime) {
-    for &(form, grid) in &FORMS {
-        let right = right_cells(rt.alloc(), form, grid);
-        let (front, middle, back) = form;
+/// Asserts that each of these forms has these results.
+fn assert_forms(rt: &impl Abort, alloc: Global, forms: &[Form], grid: &Grid) {
+    for &(front, middle, back) in forms {
+        let right = right_cells(alloc, (front, middle, back), grid);
         assert!(rt; right == 49, "{front}_{middle}_{back}: cell {right}");
     }
+}
+
+#[test]
+fn types_of_operators(rt: HostRuntime) {
+    assert_forms(&rt, rt.alloc(), &SUMS, &JOINED);
+    assert_forms(&rt, rt.alloc(), &COMPUTATIONS, &COMPUTED);
+    assert_forms(&rt, rt.alloc(), &EQUALITIES, &EQUAL);
+    assert_forms(&rt, rt.alloc(), &ORDERS, &ORDERED);
+}
+
+#[test]
+fn types_of_collections(rt: HostRuntime) {
+    assert_forms(&rt, rt.alloc(), &MEMBERSHIPS, &MEMBERS);
+    assert_forms(&rt, rt.alloc(), &INDICES, &INDEXED);
+    assert_forms(&rt, rt.alloc(), &PAIRS, &PAIRED);
+}
+
+#[test]
+fn types_of_logic(rt: HostRuntime) {
+    assert_forms(&rt, rt.alloc(), &CONNECTIVES, &JUDGED);
+    assert_forms(&rt, rt.alloc(), &CONDITIONALS, &BRANCHES);
+}
+
+#[test]
+fn types_of_text_tests(rt: HostRuntime) {
+    assert_forms(&rt, rt.alloc(), &TEXT_TESTS, &TESTED);
+}
+
+#[test]
+fn types_of_macros(rt: HostRuntime) {
+    assert_forms(&rt, rt.alloc(), &QUANTIFIERS, &QUANTIFIED);
+    assert_forms(&rt, rt.alloc(), &SELECTIONS, &SELECTED);
+    assert_forms(&rt, rt.alloc(), &TRANSFORMS, &MAPPED);
 }
