@@ -10,7 +10,6 @@ pub mod Bounded
 pub mod Depths
 pub mod Entering
 pub mod Performing
-pub mod Groups
 pub mod Numbers
 pub mod Tables
 pub mod Prelude

@@ -1,5 +1,5 @@
 -- The helpers in the order of their numbers, starting with helper 1.
-use Rattle.std.specs.Prelude.{Bool, true, false, ℕ, zero, suc, ℤ, List, [], ◌∷◌, Option, None, option_and_then, slice_get}
+use Rattle.std.specs.Prelude.{ℕ, zero, suc, ℤ, List, [], ◌∷◌, Option, None, option_and_then, slice_get}
 use Rattle.helper_table.specs.Operands.{place_of}
 use Rattle.helper_table.specs.declared.helper.Helper.{Helper, TheVariants.Count, TheVariants.TextOfInt, TheVariants.Not}
 use Rattle.helper_table.specs.declared.helper.Helper.TheVariants.{Kind, IntOf, IntNew, TextConst, Field, Has, Index, Size, Equal, Less}
@@ -19,18 +19,3 @@ numbered (suc place) = slice_get helpers place
 -- the helper with a number, if any
 unfoldable pub of_number : ℤ → Option Helper
 of_number z = option_and_then numbered (place_of z)
-
--- one of the helpers from 1 to 11
-abbrev pub is_up_to_join : Helper → Bool
-is_up_to_join Kind = true
-is_up_to_join IntOf = true
-is_up_to_join IntNew = true
-is_up_to_join TextConst = true
-is_up_to_join Field = true
-is_up_to_join Has = true
-is_up_to_join Index = true
-is_up_to_join Size = true
-is_up_to_join Equal = true
-is_up_to_join Less = true
-is_up_to_join Join = true
-is_up_to_join _ = false

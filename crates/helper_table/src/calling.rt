@@ -1,9 +1,8 @@
 //! Calls of helpers: the effect of a call, and how it is carried out.
-ghost use Rattle.std.specs.Prelude.{◌≡◌, ℕ, List, false, IsOk};
+ghost use Rattle.std.specs.Prelude.{◌≡◌, ℕ, false, IsOk};
 ghost use Rattle.helper_table.specs.Calls.{row_of, outcome_of, call_end};
 ghost use Rattle.helper_table.specs.Outcome.{answer_among, charged};
 ghost use Rattle.helper_table.specs.Effects.{means, CanFollow, outcome_by, CanDo, TakesEffect};
-ghost use Rattle.helper_table.specs.Numbers.{is_up_to_join};
 ghost use Rattle.helper_table.specs.Ends.{CallReturns, takes_memory};
 ghost use Rattle.value_store.specs.Placing.{Contents};
 
@@ -21,9 +20,8 @@ use itoa::Buffer;
 use std::alloc::AllocError;
 use value_store::{CHARGE_LIMIT, ValueStore};
 
-/// The effect of a helper's row on these arguments. The helpers after `join` have a function of their own, as the proof
-/// of one match grows faster than its arms.
-#[tactic(auto, using(crate::proofs::Groups::not_up_to_join), unfolding(crate::specs::Calls::row_of))]
+/// The effect of a helper's row on these arguments.
+#[tactic(auto, unfolding(crate::specs::Calls::row_of, crate::specs::Comparisons::starts_row, crate::specs::Comparisons::ends_row, crate::specs::Comparisons::contains_row))]
 fn effect_of<'a, V: ValueStore, M: Regions>(
     helper: Helper,
     args: [u64; 5],
@@ -48,24 +46,6 @@ fn effect_of<'a, V: ValueStore, M: Regions>(
         Helper::Equal => equal(table, a, b),
         Helper::Less => less(table, a, b),
         Helper::Join => join(table, a, b),
-        _ => later_effect_of(helper, args, table),
-    }
-}
-
-/// `effect_of` for a helper after `join`.
-#[tactic(auto, using(crate::proofs::Groups::only_not), unfolding(crate::specs::Calls::row_of, crate::specs::Comparisons::starts_row, crate::specs::Comparisons::ends_row, crate::specs::Comparisons::contains_row))]
-fn later_effect_of<'a, V: ValueStore>(
-    helper: Helper,
-    args: [u64; 5],
-    table: &mut V,
-) -> Result<HelperEffect<'a>, Fault>
-    ensures means { (constants : List ℕ) → is_up_to_join helper ≡ false → means (V.values table.old) result ≡ row_of helper args (V.values table.old) constants }
-    ensures can { CanFollow (V.values table.old) result }
-    ensures values { V.values table.new ≡ V.values table.old }
-    ensures charge { V.charge table.new ≡ V.charge table.old }
-{
-    let [a, b, c, _, _] = args;
-    match helper {
         Helper::Starts => test_texts(table, TextTest::Starts, a, b),
         Helper::Ends => test_texts(table, TextTest::Ends, a, b),
         Helper::Contains => test_texts(table, TextTest::Contains, a, b),
@@ -77,7 +57,7 @@ fn later_effect_of<'a, V: ValueStore>(
         Helper::Item => item(table, a, b),
         Helper::Count => count(table, a),
         Helper::TextOfInt => text_of_int(table, a),
-        _ => not(table, a),
+        Helper::Not => not(table, a),
     }
 }
 

@@ -6,7 +6,7 @@ use crate::operands::place_of;
 
 /// A helper. Its arguments are the words of the registers R1 to R5: references to values, words, and
 /// addresses and lengths of ranges of the constants.
-#[derive(Clone, Copy)]
+#[derive(Clone, Copy, Debug, PartialEq, Eq)]
 pub(crate) enum Helper {
     /// The kind of a value.
     Kind,
