@@ -1,8 +1,9 @@
 //! Equivalent resources: a server may store them in the same place.
-ghost use Rattle.std.specs.Prelude.{◌≡◌, ◌&&◌, map, string_bytes};
+ghost use Rattle.std.specs.Prelude.{◌≡◌, ◌&&◌, ◌∷◌, [], codes, map, string_bytes};
 ghost use Rattle.std.specs.List.{list_any};
 ghost use Rattle.admission_match.specs.Requests.{attributes_view, resource_view};
 ghost use Rattle.admission_match.specs.Rules.{are, at_version, fits_other_version, fits_own_group, fits_shared_group, has_or_any, is_cluster, is_shared, may_fit, rule_view, sharing_groups};
+ghost use Rattle.label_selectors.specs.Selectors.{is_one_of};
 
 use crate::attributes::Attributes;
 use crate::patterns::{covers_one, has_or_any};
@@ -107,15 +108,41 @@ fn has_group(patterns: &[String], group: &str, other: &str, resource: &str) -> b
 }
 
 /// Whether the two groups store this resource in one place.
-#[tactic(auto, using(crate::proofs::Texts::or_none), unfolding(crate::specs::Rules::is_shared))]
+#[tactic(auto, unfolding(crate::specs::Rules::is_shared))]
 fn is_shared(group: &str, other: &str, resource: &str) -> bool
     ensures { result ≡ is_shared group.now other.now resource.now }
 {
-    (are(group, other, "", "events.k8s.io") && resource == "events")
-        || (are(group, other, "extensions", "apps")
-            && (resource == "deployments" || resource == "daemonsets" || resource == "replicasets"))
-        || (are(group, other, "extensions", "networking.k8s.io")
-            && (resource == "ingresses" || resource == "networkpolicies"))
+    shares_events(group, other, resource)
+        || shares_workloads(group, other, resource)
+        || shares_networks(group, other, resource)
+}
+
+/// Whether these are the two groups of events, and this is their resource.
+#[tactic(auto, using(crate::proofs::Texts::or_none))]
+fn shares_events(group: &str, other: &str, resource: &str) -> bool
+    ensures { result ≡ (are group.now other.now [] (codes "events.k8s.io") && is_one_of resource.now (codes "events" ∷ [])) }
+{
+    are(group, other, "", "events.k8s.io") && resource == "events"
+}
+
+/// Whether these are the two groups of workloads, and this is one of their resources.
+#[tactic(auto, using(crate::proofs::Texts::or_none))]
+fn shares_workloads(group: &str, other: &str, resource: &str) -> bool
+    ensures { result ≡ (are group.now other.now (codes "extensions") (codes "apps")
+        && is_one_of resource.now (codes "deployments" ∷ codes "daemonsets" ∷ codes "replicasets" ∷ [])) }
+{
+    are(group, other, "extensions", "apps")
+        && (resource == "deployments" || resource == "daemonsets" || resource == "replicasets")
+}
+
+/// Whether these are the two groups of networks, and this is one of their resources.
+#[tactic(auto, using(crate::proofs::Texts::or_none))]
+fn shares_networks(group: &str, other: &str, resource: &str) -> bool
+    ensures { result ≡ (are group.now other.now (codes "extensions") (codes "networking.k8s.io")
+        && is_one_of resource.now (codes "ingresses" ∷ codes "networkpolicies" ∷ [])) }
+{
+    are(group, other, "extensions", "networking.k8s.io")
+        && (resource == "ingresses" || resource == "networkpolicies")
 }
 
 /// Whether these are the two groups, in either order.

@@ -3,7 +3,7 @@
 use crate::trouble::Trouble;
 
 /// Whether a namespace selector lets a request pass.
-#[derive(Clone, Copy, Debug, PartialEq, Eq)]
+#[derive(Clone, Copy)]
 pub(crate) enum NamespaceAnswer {
     Passes,
     KeptOut,

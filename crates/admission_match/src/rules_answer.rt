@@ -1,7 +1,7 @@
 //! Whether a list of rules fits a request.
 
 /// Whether a rule of a list fits a request.
-#[derive(Clone, Copy, Debug, PartialEq, Eq)]
+#[derive(Clone, Copy)]
 pub(crate) enum RulesAnswer {
     /// A rule fits the resource that the request names.
     SomeFits,
