@@ -4,31 +4,25 @@ ghost use Rattle.std.specs.Prelude.{◌≡◌};
 ghost use Rattle.assembler.specs.declared.asm_error.AsmError.TheVariants.{Memory};
 
 use std::alloc::{AllocError, AllocFailed};
+use std::fmt;
 use thiserror::Error;
 
 /// Why a text cannot be assembled. The number in a variant is that of the line, counted from 1.
 #[derive(Clone, Copy, Debug, PartialEq, Eq, Error)]
 pub enum AsmError {
     /// The line is not an instruction, a slot or a label.
-    #[error("line {0} is no instruction, slot or label")]
     UnknownLine(usize),
     /// An immediate or an offset of the line is outside the range of its field.
-    #[error("line {0} has a number that is out of range")]
     NumberOutOfRange(usize),
     /// No line defines the label that the line jumps to.
-    #[error("line {0} jumps to a label that no line names")]
     UnknownLabel(usize),
     /// An earlier line defines the same label.
-    #[error("line {0} names a label a second time")]
     DuplicateLabel(usize),
     /// The offset to the label does not fit the signed 16 bits of the line's jump.
-    #[error("line {0} jumps to a label that is too far away")]
     JumpTooFar(usize),
     /// The lines up to and including this one have more than 65,536 slots.
-    #[error("line {0} is past the 65536 slots that a program can have")]
     TooManySlots(usize),
     /// An allocation failed.
-    #[error("out of memory")]
     Memory,
 }
 
@@ -52,6 +46,19 @@ impl AsmError {
         }
     }
 
+    /// The message, without the line.
+    fn message(&self) -> &'static str {
+        match self {
+            AsmError::UnknownLine(_) => "is no instruction, slot or label",
+            AsmError::NumberOutOfRange(_) => "has a number that is out of range",
+            AsmError::UnknownLabel(_) => "jumps to a label that no line names",
+            AsmError::DuplicateLabel(_) => "names a label a second time",
+            AsmError::JumpTooFar(_) => "jumps to a label that is too far away",
+            AsmError::TooManySlots(_) => "is past the 65536 slots that a program can have",
+            AsmError::Memory => "out of memory",
+        }
+    }
+
     /// The line at which the text is refused, counted from 1.
     pub fn line(&self) -> Option<usize>
         ensures { result ≡ asm_error_line self.now }
@@ -64,6 +71,16 @@ impl AsmError {
             | AsmError::JumpTooFar(line)
             | AsmError::TooManySlots(line) => Some(line),
             AsmError::Memory => None,
+        }
+    }
+}
+
+impl fmt::Display for AsmError {
+    fn fmt<W: fmt::Write>(&self, f: &mut fmt::Formatter<W>) -> fmt::Result {
+        let message = self.message();
+        match self.line() {
+            Some(line) => write!(f, "line {line} {message}"),
+            None => write!(f, "{message}"),
         }
     }
 }

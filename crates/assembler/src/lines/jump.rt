@@ -3,7 +3,7 @@
 use insn_codec::{Comparison, Insn, Operand, Register, Statement, Width};
 
 /// An instruction that jumps by an offset, without that offset (RFC 9669, section 4.3).
-#[derive(Clone, Copy, Debug, PartialEq, Eq)]
+#[derive(Clone, Copy)]
 pub(crate) enum Jump {
     /// A jump with an offset of 16 bits.
     Near,

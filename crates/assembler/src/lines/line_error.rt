@@ -1,7 +1,7 @@
 //! Why a line is invalid.
 
 /// Why a line is invalid.
-#[derive(Clone, Copy, Debug, PartialEq, Eq)]
+#[derive(Clone, Copy)]
 pub(crate) enum LineError {
     /// The line has no valid form.
     NoForm,

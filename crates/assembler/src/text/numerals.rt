@@ -6,7 +6,7 @@ ghost use Rattle.assembler.specs.Numbers.{is_decimal, is_immediate, is_offset, i
 ghost use Rattle.assembler.specs.Parts.{NumeralIs};
 
 /// A decimal number.
-#[derive(Clone, Copy, Debug, PartialEq, Eq)]
+#[derive(Clone, Copy)]
 pub(crate) enum Numeral {
     /// A number that fits 32 bits signed.
     Small(i32),

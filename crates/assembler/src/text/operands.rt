@@ -9,7 +9,7 @@ use crate::text::registers::register;
 use insn_codec::Register;
 
 /// The second operand of an instruction.
-#[derive(Clone, Copy, Debug, PartialEq, Eq)]
+#[derive(Clone, Copy)]
 pub(crate) enum Value {
     /// A register.
     Register(Register),
