@@ -15,7 +15,8 @@ from . import manual, pages
 from .commands_manual import of_parser
 from .completion import NAMES, bash, zsh
 
-# the packages of Python that `vapctl` needs, which need nothing of the repository
+# the files and the packages of Python that `vapctl` needs, which need nothing of the repository
+FILES = ("__init__.py", "aliases.py", "documents.py", "entry.py", "home.py", "yaml_words.py")
 MODULES = ("asking", "assembling", "testing", "evaluator", "manifests", "slots", "viewing", "dap", "vapctl")
 ENTRY = '''#!/usr/bin/env python3
 """{what}"""
@@ -64,7 +65,7 @@ def put_modules(prefix: Path) -> None:
     package = prefix / "lib" / "celbpf" / "celbpf_tools"
     for module in MODULES:
         copied(PACKAGE / module, package / module)
-    for file in ("__init__.py", "home.py", "entry.py", "documents.py"):
+    for file in FILES:
         copied(PACKAGE / file, package / file)
 
 

@@ -2,6 +2,7 @@
 
 import re
 import subprocess
+import sys
 import tempfile
 import unittest
 from pathlib import Path
@@ -15,6 +16,7 @@ from ..packaging.completion import COMMANDS, bash, zsh
 from ..packaging.manual import escaped
 from ..packaging.pages import linked, renamed, without_sections
 from ..packaging.rooted import contents
+from ..packaging.tree import put_modules
 from ..vapctl.commands import WHATS
 from ..vapctl.main import parser
 
@@ -36,6 +38,24 @@ and [a link](B.md).
     .dot
 
 The end."""
+
+
+# imports each module that is there
+IMPORTS = """import importlib, pkgutil, sys
+sys.path.insert(0, sys.argv[1])
+import celbpf_tools
+for one in pkgutil.walk_packages(celbpf_tools.__path__, "celbpf_tools."):
+    importlib.import_module(one.name)
+"""
+
+
+class Modules(unittest.TestCase):
+    def test_each_has_what_it_imports(self) -> None:
+        with tempfile.TemporaryDirectory() as name:
+            put_modules(Path(name))
+            words = [sys.executable, "-B", "-c", IMPORTS, str(Path(name) / "lib" / "celbpf")]
+            ran = subprocess.run(words, cwd=name, capture_output=True, text=True, check=False)
+        self.assertEqual((ran.returncode, ran.stderr), (0, ""))
 
 
 class Manual(unittest.TestCase):
