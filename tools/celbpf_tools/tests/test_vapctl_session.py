@@ -7,7 +7,7 @@ import sys
 import unittest
 from typing import Any
 
-from ..dap.parts import parts_of
+from ..dap.parts import Parts, parts_of
 from ..home import EXAMPLES, PACKAGE
 from ..slots.layout import program_of
 from ..slots.mapping import SlotMap
@@ -80,6 +80,13 @@ class Sessions(unittest.TestCase):
     def test_a_fault_is_explained(self) -> None:
         _, said = on_terminal("fault", "c", "q")
         self.assertEqual(said[1:], ["step 6 pc 3 fault F3: an access is outside the regions, or crosses the border of one"])
+
+    def test_a_jump_has_its_target(self) -> None:
+        child: Any = self
+        asker = session.Asker(child, Parts())
+        for said, due in [("2 jeq64 r1, 0, +3", "  to 6"), ("5 ja -4", "  to 2"), ("9 call_local +0", "  to 10"), ("3 add64 r0, -1", ""),
+                          ("7 ldxw r1, [r2+4]", ""), ("-1 outside", ""), ("4 jset32 r1, r2, -1", "  to 4")]:
+            self.assertEqual(asker.shown(said), [said + due])
 
     def test_help_has_each_command_of_the_page(self) -> None:
         status, said = on_terminal("image", "help", "q")

@@ -47,6 +47,8 @@ LETTERS = {
 CHANGED = re.compile(rf"(break|clear) {NUMBER}")
 # of a policy's verdict, the line of the outcome and that of a validation, with what their numbers mean
 VERDICTS = {re.compile(r"verdict (\d+) \d+"): OUTCOMES, re.compile(r"validation \d+ (\d+)"): TRUTHS}
+# a listed jump or local call, whose offset is from the next slot on
+JUMP = re.compile(r"(\d+) (?:j\w+|call_local) (?:.*, )?([+-]\d+)")
 NO_PARTS = "no parts are known: this is an image alone, or its parts are not mapped"
 
 
@@ -124,6 +126,8 @@ class Asker:
         if found := CHANGED.fullmatch(said):
             (self.breakpoints.add if found[1] == "break" else self.breakpoints.discard)(int(found[2]))
             return [f"{said}{self.named(int(found[2]))}"]
+        if found := JUMP.fullmatch(said):
+            return [f"{said}  to {int(found[1]) + 1 + int(found[2])}"]
         try:
             place = place_in(said)
         except Refused:
