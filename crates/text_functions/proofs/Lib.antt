@@ -2,8 +2,9 @@
 pub mod Ascii
 pub mod Counting
 pub mod Cutting
-pub mod Others
+pub mod Joining
 pub mod Prelude
+pub mod ReplacedParts
 pub mod Searching
 pub mod SpelledInts
 pub mod Splitting

@@ -4,14 +4,14 @@ pub use Rattle.std.proofs.Common.{min, option_map, refl, rules, string_bytes, su
 pub use Rattle.std.proofs.Common.{Err, FitsSigned, Ok, Result, ℤ, neg_ℤ, negsuc, pos, w64, ◌^◌}
 pub use Rattle.std.proofs.Common.{Bool, List, None, Option, Some, [], ℕ, ◌+◌, ◌++◌, ◌-◌, ◌<◌, ◌≤◌, ◌≡◌, ◌≢◌, ◌∙◌, ◌∷◌, ◌⊎◌, ◌&&◌, ◌||◌}
 pub use Rattle.std.proofs.Common.{◌==◌, slice_index}
-pub use Rattle.std.proofs.Common.{IfSome, MatchOption, append_assoc, length-append, nat_eq, nat_le, nat_lt}
-pub use Rattle.std.proofs.lemmas.Bool.{and_from, and_parts, cases_lt, eq-eqb, eqb-true, false_from_ne_true}
+pub use Rattle.std.proofs.Common.{IfSome, MatchOption, append_assoc, is_none, length-append, nat_eq, nat_le, nat_lt}
+pub use Rattle.std.proofs.lemmas.Bool.{and_from, and_parts, cases_lt, eq-eqb, eqb-true, false_from_ne_true, true≢false}
 pub use Rattle.std.proofs.lemmas.Bool.Decides.{nat_tests}
 pub use Rattle.std.proofs.lemmas.Grind.{common_steps}
-pub use Rattle.std.proofs.lemmas.List.{append-nil, append_cancel_right, drop-drop, drop-take, drop_at, drop_min, length-drop, length-take}
+pub use Rattle.std.proofs.lemmas.List.{append-nil, append_cancel_right, drop-append-le, drop-drop, drop-take, drop_at, drop_min, length-drop, length-take}
 pub use Rattle.std.proofs.lemmas.List.{length-take-le}
 pub use Rattle.std.proofs.lemmas.List.{map_push, take-append-drop, take-take, take_at}
-pub use Rattle.std.proofs.lemmas.Option.{IfSome_then, none-some, same_Some}
+pub use Rattle.std.proofs.lemmas.Option.{IfSome_then, none-some, same_Some, some_pair_parts}
 pub use Rattle.std.proofs.lemmas.Str.{IsAscii-append, IsCharBoundary-at_seam, IsUtf8-append, IsUtf8-drop, IsUtf8-past_char, IsUtf8-take}
 pub use Rattle.std.proofs.lemmas.Str.{chars-IsAscii, chars-append, chars-encodes, chars_past_char, encodes-IsAscii, encodes-append}
 pub use Rattle.std.proofs.lemmas.Str.{encodes-chars, length-le-encodes, scalars-chars}

@@ -94,7 +94,7 @@ and_false : (v : Bool) → (v && false) ≡ false
 and_false true = refl
 and_false false = refl
 
-begins_short : (part cs : List ℕ) → length cs < length part → begins part cs ≡ false
+pub begins_short : (part cs : List ℕ) → length cs < length part → begins part cs ≡ false
 begins_short [] cs l = let no : ⊥ = omega arith in absurd no
 begins_short (p ∷ part) [] l = refl
 begins_short (p ∷ part) (c ∷ cs) l = ap (λ v. nat_eq p c && v) (begins_short part cs (omega arith)) ∙ and_false (nat_eq p c)

@@ -5,7 +5,7 @@ use Rattle.text_functions.proofs.Prelude.{append-nil, map_push, encode_utf8, enc
 use Rattle.text_functions.proofs.Prelude.{chars, Bor, IsLetterAndRest, all_spelled, letters, next_cut, on_cut, pieces}
 use Rattle.text_functions.proofs.Cutting.{no_rest}
 
-one_less : (n : ℕ) → n ≡ suc n - 1
+pub one_less : (n : ℕ) → n ≡ suc n - 1
 one_less n = omega arith
 
 abbrev pub told : List (Bor (List ℕ)) → List (List ℕ)

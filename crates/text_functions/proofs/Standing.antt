@@ -12,7 +12,7 @@ use Rattle.text_functions.proofs.Searching.{first_at, first_none, last_at, last_
 -- ---- on lists
 
 -- what follows a part
-begins_some : (part cs : List ℕ) → begins part cs ≡ true → (rest : List ℕ) × (cs ≡ part ++ rest)
+pub begins_some : (part cs : List ℕ) → begins part cs ≡ true → (rest : List ℕ) × (cs ≡ part ++ rest)
 begins_some [] cs e = (cs, refl)
 begins_some (p ∷ part) [] e = let no : false ≡ true = e in cc
 begins_some (p ∷ part) (c ∷ cs) e =
@@ -20,7 +20,7 @@ begins_some (p ∷ part) (c ∷ cs) e =
     let more : (rest : List ℕ) × (cs ≡ part ++ rest) = begins_some part cs h.1 in
     (more.0, ap₂ (λ x xs. x ∷ xs) (sym (eqb-true p c h.0)) more.1)
 
-begins_of : (part rest : List ℕ) → begins part (part ++ rest) ≡ true
+pub begins_of : (part rest : List ℕ) → begins part (part ++ rest) ≡ true
 begins_of [] rest = refl
 begins_of (p ∷ part) rest = and_from (nat_eq p p) (begins part (part ++ rest)) (eq-eqb p p refl) (begins_of part rest)
 

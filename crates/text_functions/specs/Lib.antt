@@ -2,6 +2,7 @@
 pub mod Cuts
 pub mod Formats
 pub mod Ints
+pub mod Laws
 pub mod Letters
 pub mod Parts
 pub mod Pieces

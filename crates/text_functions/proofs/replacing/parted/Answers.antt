@@ -1,6 +1,6 @@
 -- Proofs of `replacing::parted`: a code point keeps the invariant, and the result meets the contract.
 use Rattle.text_functions.proofs.Prelude.{◌∙◌, ◌++◌, ap, arith, common_steps, string_bytes}
-use Rattle.text_functions.proofs.Others.{part_done, part_more}
+use Rattle.text_functions.proofs.ReplacedParts.{part_done, part_more}
 use Rattle.text_functions.proofs.replacing.parted.Goals as goal
 
 pub letters-init : goal.letters-init

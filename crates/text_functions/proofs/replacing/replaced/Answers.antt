@@ -1,6 +1,6 @@
 -- Proofs of `replacing::replaced`: a cut keeps the invariant, and the result meets the contract.
 use Rattle.text_functions.proofs.Prelude.{◌∙◌, arith, chars, common_steps, string_bytes}
-use Rattle.text_functions.proofs.Others.{replace_end, replace_more}
+use Rattle.text_functions.proofs.ReplacedParts.{replace_end, replace_more}
 use Rattle.text_functions.proofs.replacing.replaced.Goals as goal
 
 pub places-init : goal.places-init

@@ -4,9 +4,7 @@ use Rattle.text_functions.proofs.Prelude.{None, length, refl, sym, ap, ap₂, ar
 use Rattle.text_functions.proofs.Prelude.{encodes-append, encodes-chars, IsUtf8, chars, IsLetterAndRest, chosen, next_cut, on_cut, parted}
 use Rattle.text_functions.proofs.Prelude.{replaced}
 use Rattle.text_functions.proofs.Cutting.{no_rest}
-
-one_less : (n : ℕ) → n ≡ suc n - 1
-one_less n = omega arith
+use Rattle.text_functions.proofs.Splitting.{one_less}
 
 -- what was made, two texts and others
 joined : (made a b rest whole : List ℕ) → made ++ (a ++ (b ++ rest)) ≡ whole → made ++ a ++ b ++ rest ≡ whole
