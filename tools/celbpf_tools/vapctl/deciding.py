@@ -7,12 +7,14 @@ all findings, since a binding is not configured or a policy does not decide, eac
 
 import json
 import re
+from collections.abc import Container
+from dataclasses import replace
 from pathlib import Path
 from typing import Any, Iterator
 
 from ..asking.gatekeeper import REFUSAL, without_file
 from ..manifests.kinds import Resources
-from .cluster import EVERYTHING, NoState, State, is_any, key_of, policy_of, spec_of
+from .cluster import BINDING, EVERYTHING, POLICY, NoState, State, is_any, is_of, key_of, policy_of, spec_of
 from .gate import Answer, Gate
 from .inputs import Thing
 from .refusals import NO_KIND, why_blocked
@@ -24,6 +26,8 @@ WARNING = re.compile(r"Validation failed for ValidatingAdmissionPolicy '(.*?)' w
 DENIAL = re.compile(r"is forbidden: ValidatingAdmissionPolicy '(.*?)'(?: with binding '(.*?)')? denied request: (.*)", re.DOTALL)
 LISTED = re.compile(r"gatekeeper: policy (\S+), bindings.*?(?:, blocked (.*))?$")
 WARNS = ["Warn"]
+# the outcome, the message and the findings of a review
+Decided = tuple[str, str, list[Finding]]
 # by the place of a review what is found, and the review with what is found so far
 Found = dict[int, list[Finding]]
 Unlisted = dict[int, tuple[str, list[Finding]]]
@@ -48,6 +52,8 @@ class Deciding:
         self.policies: list[str] = []
         # by policy why it is not decided
         self.blocked: dict[str, str] = {}
+        # what decides without the bindings of some of these
+        self.parts: dict[frozenset[str], Deciding] = {}
         self.file = state.written(folder / "state.json")
         self.start()
 
@@ -97,8 +103,42 @@ class Deciding:
         kept = [one for one in self.state.things if key_of(one) != key_of(thing)]
         return not self.gate.started(State([*kept, thing]).written(self.folder / "repaired.json")).returncode
 
-    def decide(self, lines: list[str]) -> Iterator[tuple[str, str, list[Finding]]]:
-        """The outcome, the message and the findings of each review."""
+    def decide(self, lines: list[str]) -> Iterator[Decided]:
+        """The outcome, the message and the findings of each review. The gatekeeper does not decide what the constraints of a
+        policy match that it refuses; a cluster asks the policy only if one of its bindings matches too.
+        """
+        groups: dict[frozenset[str], list[int]] = {}
+        for place, names in enumerate(self.unmet(lines)):
+            groups.setdefault(names, []).append(place)
+        decided: dict[int, Decided] = {}
+        for names, places in groups.items():
+            part = self.without(names) if names else self
+            decided.update(zip(places, part.decided([lines[place] for place in places])))
+        yield from (decided[place] for place in range(len(lines)))
+
+    def unmet(self, lines: list[str]) -> list[frozenset[str]]:
+        """Of each review the policies that are refused and of which no binding matches; none if that is not known."""
+        if not self.blocked:
+            return [frozenset()] * len(lines)
+        file = stand_ins(self.state, self.blocked).written(self.folder / "stand-ins.json")
+        return [self.unmet_by(answer) for answer in self.gate.answers(file, lines)]
+
+    def unmet_by(self, answer: Answer) -> frozenset[str]:
+        """The policies of which no stand-in has found something."""
+        met = {match[1] for match in map(WARNING.fullmatch, answer.warnings) if match}
+        return frozenset() if answer.refused or not answer.allowed else frozenset(self.blocked) - met
+
+    def without(self, names: frozenset[str]) -> "Deciding":
+        """What decides under the state in which these policies have no bindings."""
+        if names not in self.parts:
+            folder = self.folder / f"without{len(self.parts)}"
+            folder.mkdir()
+            things = [one for one in self.state.things if not is_of(one, BINDING) or policy_of(one) not in names]
+            self.parts[names] = Deciding(self.gate, replace(self.state, things=things), folder)
+        return self.parts[names]
+
+    def decided(self, lines: list[str]) -> Iterator[Decided]:
+        """The outcome, the message and the findings of each review, as the gatekeeper decides."""
         answers = self.gate.answers(self.file, lines)
         found = self.found([(place, lines[place]) for place, one in enumerate(answers) if has_more(one)])
         for place, answer in enumerate(answers):
@@ -180,6 +220,20 @@ class Deciding:
         """The most severe of a binding's actions."""
         given = self.actions.get((policy, binding), [])
         return DENY if "Deny" in given else WARN if "Warn" in given else AUDIT if "Audit" in given else DENY
+
+
+def stand_ins(state: State, names: Container[str]) -> State:
+    """A state with these policies alone, which find something in each request that their constraints and a binding match."""
+    things = [one for one in state.things if not is_of(one, POLICY) and not is_of(one, BINDING)]
+    for one in (*state.policies, *state.bindings):
+        spec = spec_of(one)
+        if is_of(one, POLICY) and one.name in names:
+            rules, finds = spec.get("matchConstraints"), [{"expression": "false", "message": "met"}]
+            things.append(Thing({**one.value, "spec": {"matchConstraints": rules, "validations": finds}}, one.place))
+        elif is_of(one, BINDING) and policy_of(one) in names:
+            kept = {key: spec[key] for key in ("policyName", "matchResources") if key in spec}
+            things.append(Thing({**one.value, "spec": {**kept, "validationActions": WARNS}}, one.place))
+    return State(things)
 
 
 def repaired(thing: Thing, key: str, value: Any) -> Thing:
