@@ -2,7 +2,7 @@
 use Rattle.cel_reader.proofs.Prelude.{◌≡◌, ℕ, suc, ◌+◌, ◌-◌, ◌<◌, List, [], ◌∷◌, ◌++◌, pos, map, length, take, Err, true, false, refl, sym, ◌∙◌, ap, subst, arith, append_assoc, length-append, drop-map, take-append_seam, take-append-add, Word, token_view, int, CodeToken, UnexpectedToken, Tree, words, opens, Expression, One, Derives, Misfit, Deep, Got, Refused, Row, go, StepReads, place_left, refused_at, place_at, IsViablePrefix, UnexpectedAt, DeepAt, StandsAt, ParseErrorIsAt, Refusal, open_limit}
 use Rattle.cel_reader.specs.declared.refusal.Refusal.TheVariants as refusal
 use Rattle.cel_reader.proofs.Steps.{words_length}
-use Rattle.cel_reader.specs.Reading.{Fails}
+use Rattle.cel_reader.specs.Reading.{PhraseFails}
 use Rattle.cel_reader.proofs.Alike.{Alike, same, down}
 use Rattle.cel_reader.proofs.Local.{local}
 use Rattle.cel_reader.proofs.Loose.{loosely, carried}
@@ -117,7 +117,7 @@ moved : (P : ℕ → List Word → Type 0) (source : List ℕ) (tokens : List Co
 moved P source tokens left n e p = stands source tokens left P (subst (λ (k : ℕ). P k (words source tokens)) (same_count source tokens left n e) p)
 
 -- the reading is refused
-pub placed_fails : (source : List ℕ) (tokens : List CodeToken) (e : Refusal) → Fails e (StepReads (Row Expression) open_limit (words source tokens))
+pub placed_fails : (source : List ℕ) (tokens : List CodeToken) (e : Refusal) → PhraseFails e (StepReads (Row Expression) open_limit (words source tokens))
     → ParseErrorIsAt (length source) (map (token_view source) tokens) (Err (refused_at (length source) tokens e))
 placed_fails source tokens (refusal.Misfit left) g = moved UnexpectedAt source tokens left (length g.0) g.1 (misfit_at (words source tokens) g.0 g.2)
 placed_fails source tokens (refusal.Deep left) g = moved DeepAt source tokens left (suc (length g.0)) g.1 (deep_at (words source tokens) g.0 g.2)

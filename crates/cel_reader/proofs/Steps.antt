@@ -1,6 +1,6 @@
 -- Steps over the results of calls.
 use Rattle.cel_reader.proofs.Prelude.{Bool, true, false, ◌≡◌, ◌≢◌, ℕ, suc, ◌-◌, List, [], ◌∷◌, ◌++◌, map, length, Result, sym, ◌∙◌, ap, arith, map-append, length-map, ReadOutcome, Refused, Cause, Deep, ReturnsOutcome, Kind, Row, Plan, look, enter, inside, operand, PlanRuns, goes, found, missing, enters, opened, full, StepReads, Unary, unary_mark, UnaryOperator, Mark, err_from_is_err_and, if◌then◌else◌, IsErrAnd, Word, Token, token_view, mark, CodeToken, words, Look, FoundBy, Is, this_mark, opens_mark, Refusal}
-use Rattle.cel_reader.specs.Reading.{Fails}
+use Rattle.cel_reader.specs.Reading.{PhraseFails}
 use Rattle.cel_reader.specs.declared.operator.UnaryOperator.TheVariants as unary
 
 pub has_room : (room : ℕ) → room ≢ 0 → room ≡ suc (room - 1)
@@ -51,7 +51,7 @@ either true source xs ys P p = (words source xs, words_length source xs, p)
 either false source xs ys P p = (words source ys, words_length source ys, p)
 
 -- the outcome that an error means, from the code's finding
-pub refused : {X : Type 0} (token_view : X → ReadOutcome) (P Q : ReadOutcome → Type 0) (e : Refusal) (r : Result X Refusal) → IsErrAnd r (λ f. f ≡ e) → Fails e P
+pub refused : {X : Type 0} (token_view : X → ReadOutcome) (P Q : ReadOutcome → Type 0) (e : Refusal) (r : Result X Refusal) → IsErrAnd r (λ f. f ≡ e) → PhraseFails e P
     → ((k : Cause) → P (Refused k) → Q (Refused k)) → ReturnsOutcome token_view r Q
 refused token_view P Q e r is g f = let p = err_from_is_err_and r is in rw (p.1, p.2) (grind arith)
 

@@ -3,7 +3,7 @@ use Rattle.cel_reader.proofs.Prelude.{◌≡◌, ◌≢◌, ℕ, List, [], ◌�
 use Rattle.cel_tokens.specs.Lexis as tokens
 use Rattle.cel_reader.proofs.FirstWords.{first}
 use Rattle.cel_reader.specs.declared.refusal.Refusal.TheVariants as refusal
-use Rattle.cel_reader.specs.Reading.{Fails}
+use Rattle.cel_reader.specs.Reading.{PhraseFails}
 use Rattle.cel_reader.proofs.Theorems.{whole_sound, whole_unique, misfit_never, rest_never, deep_never, deep_openings}
 
 -- the whole text is read
@@ -15,7 +15,7 @@ pub told_rest : (ws rest us : List Word) (w : Word) (a : Tree) → StepReads (Ro
 told_rest ws rest us w a r e = λ room b d. rest_never open_limit room ws us w a b (subst (λ (x : List Word). StepReads (Row Expression) open_limit ws (Got (One a) x)) e r) d
 
 -- the reading is refused
-pub told_fails : (len : ℕ) (tokens : List CodeToken) (ws : List Word) (e : Refusal) → ws ≢ [] → Fails e (StepReads (Row Expression) open_limit ws) → ParseReturns ws (Err (refused_at len tokens e))
+pub told_fails : (len : ℕ) (tokens : List CodeToken) (ws : List Word) (e : Refusal) → ws ≢ [] → PhraseFails e (StepReads (Row Expression) open_limit ws) → ParseReturns ws (Err (refused_at len tokens e))
 told_fails len tokens ws (refusal.Misfit left) n g = λ room a d. misfit_never open_limit room ws g.0 a g.2 d
 told_fails len tokens ws (refusal.Deep left) n g = (λ a d. deep_never open_limit ws g.0 a g.2 d, deep_openings open_limit ws g.0 g.2)
 told_fails len tokens ws refusal.Memory n g = n

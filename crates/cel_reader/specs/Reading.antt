@@ -179,16 +179,16 @@ ReturnsOutcome seen (Err (refusal.Deep left)) P = (rest : List Word) × (left �
 ReturnsOutcome seen (Err refusal.Memory) P = Unit {0}
 
 -- an error's outcome is one of this reading
-abbrev pub Fails : Refusal → (ReadOutcome → Type 0) → Type 0
-Fails e P = ReturnsOutcome {X = Unit {0}} (λ u. Refused (Misfit [])) (Err e) P
+abbrev pub PhraseFails : Refusal → (ReadOutcome → Type 0) → Type 0
+PhraseFails e P = ReturnsOutcome {X = Unit {0}} (λ u. Refused (Misfit [])) (Err e) P
 
 -- what was read leads to each outcome of this reading that follows from it; an error's outcome is one of the reading
-abbrev pub Leads : {X : Type 0} → Result X Refusal → (X → ReadOutcome → Type 0) → (ReadOutcome → Type 0) → Type 0
-Leads (Ok x) After P = (o : ReadOutcome) → After x o → P o
-Leads (Err e) After P = Fails e P
+abbrev pub PhraseLeads : {X : Type 0} → Result X Refusal → (X → ReadOutcome → Type 0) → (ReadOutcome → Type 0) → Type 0
+PhraseLeads (Ok x) After P = (o : ReadOutcome) → After x o → P o
+PhraseLeads (Err e) After P = PhraseFails e P
 
 -- the second result is the first one's error, or built from what was read unless an allocation failed
-abbrev pub IsBuiltFrom : {X Y : Type 0} → Result X Refusal → Result Y Refusal → (X → Y → Type 0) → Type 0
-IsBuiltFrom (Ok x) (Ok y) Built = Built x y
-IsBuiltFrom (Ok x) (Err e) Built = e ≡ refusal.Memory
-IsBuiltFrom (Err e) r Built = r ≡ Err e
+abbrev pub IsPhraseOf : {X Y : Type 0} → Result X Refusal → Result Y Refusal → (X → Y → Type 0) → Type 0
+IsPhraseOf (Ok x) (Ok y) Built = Built x y
+IsPhraseOf (Ok x) (Err e) Built = e ≡ refusal.Memory
+IsPhraseOf (Err e) r Built = r ≡ Err e

@@ -7,7 +7,7 @@ ghost use Rattle.cel_reader.specs.Tree.{Tree, view, entry_view};
 ghost use Rattle.cel_reader.specs.Grammar as row;
 ghost use Rattle.cel_reader.specs.Grammar.{One, Many, Keyed, below};
 ghost use Rattle.cel_reader.specs.Look.{words};
-ghost use Rattle.cel_reader.specs.Reading.{ReturnsOutcome, Leads, StepReads, PlanRuns, Got, Row, Selection, Enclosed, Listed, Mapped, Entry, BehindEntry, branches, maybe_call, with_arguments};
+ghost use Rattle.cel_reader.specs.Reading.{ReturnsOutcome, PhraseLeads, StepReads, PlanRuns, Got, Row, Selection, Enclosed, Listed, Mapped, Entry, BehindEntry, branches, maybe_call, with_arguments};
 
 use crate::build;
 use crate::closing::Closing;
@@ -286,7 +286,7 @@ fn entries<'a>(
 /// A key, a colon and a value.
 #[cycle(reader)]
 fn entry<'a>(alloc: Global, text: &'a [u8], tokens: &'a [Token], room: u8) -> Read<'a, (Expr, Expr)>
-    ensures reads { (pairs : List (Tree × Tree)) → Leads result (λ x o. StepReads (BehindEntry (pairs ++ entry_view x.0 ∷ [])) room (words text.now x.1.now) o) (StepReads (Entry pairs) room (words text.now tokens.now)) }
+    ensures reads { (pairs : List (Tree × Tree)) → PhraseLeads result (λ x o. StepReads (BehindEntry (pairs ++ entry_view x.0 ∷ [])) room (words text.now x.1.now) o) (StepReads (Entry pairs) room (words text.now tokens.now)) }
     ensures shorter { IfOk result (λ x. length x.1.now < length tokens.now) }
 {
     let key = expression(alloc, text, tokens, room);

@@ -21,7 +21,7 @@ use Rattle.wide_meaning.specs.declared.function.Method.{Method}
 use Rattle.wide_meaning.specs.declared.function.Method.TheVariants as method
 use Rattle.wide_meaning.specs.declared.function.Qualified.{Qualified}
 use Rattle.wide_meaning.specs.declared.function.Qualified.TheVariants as qualified
-use Rattle.wide_widths.specs.Law.{IsWithin}
+use Rattle.wide_widths.specs.Law.{IsOutcomeWithin}
 use Rattle.wide_widths.specs.Narrow.{called, qualified_called, method_called, on_operand}
 use Rattle.wide_widths.proofs.Lists.{range_within, list_within, where_within}
 use Rattle.wide_widths.proofs.Results.{flat_within, size_flat, text_flat, bool_flat, sets_flat, test_of_flat}
@@ -32,12 +32,12 @@ module _ (n : ℕ) where
   -- what is known to be narrow is within the width, operand by operand
   abbrev pub AreWithin : List Bool → List Outcome → Type 0
   AreWithin [] [] = Unit {0}
-  AreWithin (b ∷ bs) (x ∷ xs) = (b ≡ true → IsWithin n x) × AreWithin bs xs
+  AreWithin (b ∷ bs) (x ∷ xs) = (b ≡ true → IsOutcomeWithin n x) × AreWithin bs xs
   AreWithin _ _ = ⊥
 
   -- ---- functions
 
-  pub called_within : (f : Option Function) (bs : List Bool) (xs : List Outcome) (r : Outcome) → AreWithin bs xs → called f bs ≡ true → IsWithin n (function_called f xs r)
+  pub called_within : (f : Option Function) (bs : List Bool) (xs : List Outcome) (r : Outcome) → AreWithin bs xs → called f bs ≡ true → IsOutcomeWithin n (function_called f xs r)
   called_within None bs xs r h g = absurd (cc)
   called_within (Some function.Dyn) (b ∷ []) (x ∷ []) r h g = outcome_within n (plain_part x) (plain_within n x (h.0 g))
   called_within (Some function.Size) (b ∷ []) (x ∷ []) r h g = flat_within n (size_of (plain_part x)) (size_flat (plain_part x))
@@ -45,7 +45,7 @@ module _ (n : ℕ) where
   called_within (Some function.Bool) (b ∷ []) (x ∷ []) r h g = flat_within n _ (bool_flat (plain_part x))
   called_within (Some f) bs xs r h g = absurd (grind arith)
 
-  pub qualified_within : (q : Qualified) (bs : List Bool) (xs : List Outcome) (r : Outcome) → AreWithin bs xs → qualified_called q bs ≡ true → IsWithin n (qualified_in q xs r)
+  pub qualified_within : (q : Qualified) (bs : List Bool) (xs : List Outcome) (r : Outcome) → AreWithin bs xs → qualified_called q bs ≡ true → IsOutcomeWithin n (qualified_in q xs r)
   qualified_within qualified.OptionalOf (b ∷ []) (x ∷ []) r h g = some_within n x (h.0 g)
   qualified_within qualified.OptionalNone [] [] r h g = tt
   qualified_within qualified.OptionalOfNonZeroValue (b ∷ []) (x ∷ []) r h g = some_nonzero_within n x (h.0 g)
@@ -56,7 +56,7 @@ module _ (n : ℕ) where
 
   -- ---- methods
 
-  item_of_within : (f : Items → Outcome) (x : ValueOrError) → ((is : Items) → width_of (list is) ≤ n → IsWithin n (f is)) → result_width x ≤ n → IsWithin n (item_of f x)
+  item_of_within : (f : Items → Outcome) (x : ValueOrError) → ((is : Items) → width_of (list is) ≤ n → IsOutcomeWithin n (f is)) → result_width x ≤ n → IsOutcomeWithin n (item_of f x)
   item_of_within f error h g = tt
   item_of_within f (value null) h g = tt
   item_of_within f (value (boolean b)) h g = tt
@@ -65,7 +65,7 @@ module _ (n : ℕ) where
   item_of_within f (value (list is)) h g = h is g
   item_of_within f (value (map es)) h g = tt
 
-  first_item_within : (is : Items) → width_of (list is) ≤ n → IsWithin n (first_item is)
+  first_item_within : (is : Items) → width_of (list is) ≤ n → IsOutcomeWithin n (first_item is)
   first_item_within no_items h = tt
   first_item_within (item v more) h = omega (arith, h)
 
@@ -73,7 +73,7 @@ module _ (n : ℕ) where
   index_by x error h = grind (arith)
   index_by x (value k) h = index_of_within n x k h
 
-  last_item_within : (is : Items) → width_of (list is) ≤ n → IsWithin n (last_item is)
+  last_item_within : (is : Items) → width_of (list is) ≤ n → IsOutcomeWithin n (last_item is)
   last_item_within no_items h = tt
   last_item_within (item v more) h =
       let k = difference_of (size_of (value (list (item v more)))) (value (int (pos 1))) in
@@ -97,8 +97,8 @@ module _ (n : ℕ) where
       (kept_within (λ v. macro_of All (λ w. order (value v) (value w)) (list_of is)) is h)
   extreme_within order (value (map es)) h = omega arith
 
-  pub method_within : (m : Method) (b : Bool) (bs : List Bool) (x : Outcome) (xs : List Outcome) (r : Outcome) → (b ≡ true → IsWithin n x) → AreWithin bs xs
-      → method_called m b bs ≡ true → IsWithin n (method_in m x xs r)
+  pub method_within : (m : Method) (b : Bool) (bs : List Bool) (x : Outcome) (xs : List Outcome) (r : Outcome) → (b ≡ true → IsOutcomeWithin n x) → AreWithin bs xs
+      → method_called m b bs ≡ true → IsOutcomeWithin n (method_in m x xs r)
   method_within method.Size b [] x [] r h g k = flat_within n (size_of (plain_part x)) (size_flat (plain_part x))
   method_within method.StartsWith b (c ∷ []) x (y ∷ []) r h g k = flat_within n _ (test_of_flat (Some test.StartsWith) (plain_part x) (plain_part y))
   method_within method.EndsWith b (c ∷ []) x (y ∷ []) r h g k = flat_within n _ (test_of_flat (Some test.EndsWith) (plain_part x) (plain_part y))
@@ -114,7 +114,7 @@ module _ (n : ℕ) where
   method_within m b bs x xs r h g k = absurd (grind arith)
 
   pub operand_within : (q : Option Qualified) (m : Option Method) (b : Bool) (bs : List Bool) (x : Outcome) (xs : List Outcome) (r : Outcome)
-      → (b ≡ true → IsWithin n x) → AreWithin bs xs → on_operand q m b bs ≡ true → IsWithin n (operand_called q m x xs r)
+      → (b ≡ true → IsOutcomeWithin n x) → AreWithin bs xs → on_operand q m b bs ≡ true → IsOutcomeWithin n (operand_called q m x xs r)
   operand_within (Some q) m b bs x xs r h g k = qualified_within q bs xs r g k
   operand_within None (Some m) b bs x xs r h g k = method_within m b bs x xs r h g k
   operand_within None None b bs x xs r h g k = absurd (cc)

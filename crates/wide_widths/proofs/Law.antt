@@ -27,7 +27,7 @@ use Rattle.wide_meaning.specs.Meaning.{selected as field_selected, is_empty_list
 use Rattle.wide_meaning.specs.Operators.{binary_in}
 use Rattle.wide_meaning.specs.Outcome.{Outcome, plain_part, outcome_of}
 use Rattle.wide_meaning.specs.Ranges.{pairs_of}
-use Rattle.wide_widths.specs.Law.{IsWithin, IsEnvironmentWithin, NarrowMeansWithin}
+use Rattle.wide_widths.specs.Law.{IsOutcomeWithin, IsEnvironmentWithin, NarrowMeansWithin}
 use Rattle.wide_widths.specs.Narrow.{NarrowNames, binding, known, is_hidden, is_sum, literal_limit, items_count, entries_count}
 unfoldable use Rattle.wide_widths.specs.Narrow.{is_narrow, are_narrow, are_items_narrow, are_entries_narrow, is_scalar}
 use Rattle.wide_widths.proofs.Calls.{AreWithin, called_within, operand_within}
@@ -77,13 +77,13 @@ module _ (others : Wide → WideEnvironment → Outcome) (n : ℕ) where
   mutual
     unfolding is_narrow wide_meaning
 
-    within : (e : Wide) (s : NarrowNames) (env : WideEnvironment) → IsEnvironmentWithin n s env → is_narrow s e ≡ true → IsWithin n (wide_meaning others e env)
+    within : (e : Wide) (s : NarrowNames) (env : WideEnvironment) → IsEnvironmentWithin n s env → is_narrow s e ≡ true → IsOutcomeWithin n (wide_meaning others e env)
     within (wide.literal l) s env h k = flat_within n (literal_of l) (literal_flat l)
     within (wide.uint i) s env h k = omega arith
     within (wide.name x) s env h k = name_within n x s env h k
     within (wide.root x) s env h k = root_within n x env.roots h.roots
     within (wide.select a o f) s env h k =
-        subst (λ (b : Bool). IsWithin n (field_selected (denotes_variables a b) o f (wide_meaning others a env) env)) h.hidden
+        subst (λ (b : Bool). IsOutcomeWithin n (field_selected (denotes_variables a b) o f (wide_meaning others a env) env)) h.hidden
         (selected_within n (denotes_variables a (is_hidden s)) o (known (lookup f s.variables)) (is_narrow s a) f (wide_meaning others a env) env
         (h.varied f) (λ i. field_within n o (wide_meaning others a env) f (within a s env h i)) k)
     within (wide.index a o i) s env h k = index_within n o (wide_meaning others a env) (wide_meaning others i env) (within a s env h k)

@@ -24,7 +24,7 @@ use Rattle.cel_reader.specs.Words.{is_one_of}
 use Rattle.wide_meaning.specs.Functions.{text_of, bool_of, true_texts, false_texts, on_lists}
 use Rattle.wide_meaning.specs.Operators.{same, tested, binary_in, item_in, entry_in, if_text, list_in, map_in}
 use Rattle.wide_meaning.specs.Outcome.{Outcome, failed, plain, absent, present, outcome_of, plain_part}
-use Rattle.wide_widths.specs.Law.{IsWithin}
+use Rattle.wide_widths.specs.Law.{IsOutcomeWithin}
 use Rattle.wide_widths.specs.Narrow.{is_sum}
 use Rattle.wide_widths.proofs.Lists.{IsShortIf, IsValueWithin, list_within}
 use Rattle.wide_widths.proofs.Values.{IsOneMore, inserted_within, outcome_within, plain_within}
@@ -135,7 +135,7 @@ bool_flat (value (map es)) = refl
 pub sets_flat : (f : Items → Items → Bool) (x y : ValueOrError) → IsFlat (on_lists f x y)
 sets_flat f x y = grind arith
 
-pub same_flat : (o : Option Bool) (n : ℕ) → IsWithin n (tested o)
+pub same_flat : (o : Option Bool) (n : ℕ) → IsOutcomeWithin n (tested o)
 same_flat (Some b) n = omega arith
 same_flat None n = tt
 
@@ -212,7 +212,7 @@ whole error = refl
 whole (value v) = refl
 
 module _ (n : ℕ) where
-  pub flat_within : (x : ValueOrError) → IsFlat x → IsWithin n (outcome_of x)
+  pub flat_within : (x : ValueOrError) → IsFlat x → IsOutcomeWithin n (outcome_of x)
   flat_within x h = outcome_within n x (omega (arith, h))
 
   -- ---- literals of lists and maps
@@ -229,14 +229,14 @@ module _ (n : ℕ) where
   longer m None h = tt
   longer m (Some vs) h = (let l = h.0 in omega (arith, l), h.1)
 
-  pub item_within : (o : Access) (x : Outcome) (m : ℕ) (more : Option (List Value)) → IsWithin n x → AreItemsWithin m more → AreItemsWithin (suc m) (item_in o x more)
+  pub item_within : (o : Access) (x : Outcome) (m : ℕ) (more : Option (List Value)) → IsOutcomeWithin n x → AreItemsWithin m more → AreItemsWithin (suc m) (item_in o x more)
   item_within Plain x m more h g = with_one (plain_part x) m more (plain_within n x h) g
   item_within Optional failed m more h g = tt
   item_within Optional (plain v) m more h g = tt
   item_within Optional absent m more h g = longer m more g
   item_within Optional (present v) m more h g = with_one (value v) m more h g
 
-  pub items_list_within : (m : ℕ) (o : Option (List Value)) → m ≤ n → AreItemsWithin m o → IsWithin n (list_in o)
+  pub items_list_within : (m : ℕ) (o : Option (List Value)) → m ≤ n → AreItemsWithin m o → IsOutcomeWithin n (list_in o)
   items_list_within m None l h = tt
   items_list_within m (Some vs) l h = list_within n (Some vs) (let g = h.0 in omega (arith, g, l), h.1)
 
@@ -264,23 +264,23 @@ module _ (n : ℕ) where
   if_text_within None m o h = tt
   if_text_within (Some k) m o h = more_entries m o h
 
-  pub entry_in_within : (o : Access) (k x : Outcome) (m : ℕ) (more : Option Entries) → IsWithin n x → AreEntriesWithin m more → AreEntriesWithin (suc m) (entry_in o k x more)
+  pub entry_in_within : (o : Access) (k x : Outcome) (m : ℕ) (more : Option Entries) → IsOutcomeWithin n x → AreEntriesWithin m more → AreEntriesWithin (suc m) (entry_in o k x more)
   entry_in_within Plain k x m more h g = with_pair_within (text_part (plain_part k)) (plain_part x) m more (plain_within n x h) g
   entry_in_within Optional k failed m more h g = tt
   entry_in_within Optional k (plain v) m more h g = tt
   entry_in_within Optional k absent m more h g = if_text_within (text_part (plain_part k)) m more g
   entry_in_within Optional k (present v) m more h g = with_pair_within (text_part (plain_part k)) (value v) m more h g
 
-  pub entries_map_within : (m : ℕ) (o : Option Entries) → m ≤ n → AreEntriesWithin m o → IsWithin n (map_in o)
+  pub entries_map_within : (m : ℕ) (o : Option Entries) → m ≤ n → AreEntriesWithin m o → IsOutcomeWithin n (map_in o)
   entries_map_within m None l h = tt
   entries_map_within m (Some es) l h = let g = h.0 in let k = h.1 in omega (arith, g, k, l)
 
-  pub tested_within : (o : Option Bool) → IsWithin n (tested o)
+  pub tested_within : (o : Option Bool) → IsOutcomeWithin n (tested o)
   tested_within o = same_flat o n
 
   -- a binary operator; the operands of a sum are such that it is no list
   pub binary_within : (c : Bool) (op : BinaryOperator) (x y : Outcome) → (is_sum op ≡ true → IsFlat (sum_of (plain_part x) (plain_part y)))
-      → IsWithin n (binary_in c op x y)
+      → IsOutcomeWithin n (binary_in c op x y)
   binary_within true binary.Or x y h = flat_within _ (binary_flat binary.Or (plain_part x) (plain_part y) refl)
   binary_within false binary.Or x y h = flat_within _ (binary_flat binary.Or (plain_part x) (plain_part y) refl)
   binary_within true binary.And x y h = flat_within _ (binary_flat binary.And (plain_part x) (plain_part y) refl)

@@ -13,26 +13,26 @@ use Rattle.cel_macros.specs.Selection.{field_of, index_of}
 use Rattle.wide_reader.specs.declared.wide.Access.{Access, TheVariants.Plain, TheVariants.Optional}
 use Rattle.wide_meaning.specs.Access.{sel, at, field_in, index_in}
 use Rattle.wide_meaning.specs.Outcome.{Outcome, failed, plain, absent, present, outcome_of, plain_part, optional_of, some_of, is_present}
-use Rattle.wide_widths.specs.Law.{IsWithin}
+use Rattle.wide_widths.specs.Law.{IsOutcomeWithin}
 
 module _ (n : ℕ) where
-  pub outcome_within : (x : ValueOrError) → result_width x ≤ n → IsWithin n (outcome_of x)
+  pub outcome_within : (x : ValueOrError) → result_width x ≤ n → IsOutcomeWithin n (outcome_of x)
   outcome_within error h = tt
   outcome_within (value v) h = h
 
-  pub plain_within : (o : Outcome) → IsWithin n o → result_width (plain_part o) ≤ n
+  pub plain_within : (o : Outcome) → IsOutcomeWithin n o → result_width (plain_part o) ≤ n
   plain_within failed h = omega arith
   plain_within (plain v) h = h
   plain_within absent h = omega arith
   plain_within (present v) h = omega arith
 
-  pub some_within : (o : Outcome) → IsWithin n o → IsWithin n (some_of o)
+  pub some_within : (o : Outcome) → IsOutcomeWithin n o → IsOutcomeWithin n (some_of o)
   some_within failed h = tt
   some_within (plain v) h = h
   some_within absent h = tt
   some_within (present v) h = tt
 
-  pub present_within : (o : Outcome) → IsWithin n (is_present o)
+  pub present_within : (o : Outcome) → IsOutcomeWithin n (is_present o)
   present_within failed = tt
   present_within (plain v) = tt
   present_within absent = omega arith
@@ -40,7 +40,7 @@ module _ (n : ℕ) where
 
   -- ---- parts
 
-  optional_within : (o : Option Value) → ((v : Value) → o ≡ Some v → width_of v ≤ n) → IsWithin n (optional_of o)
+  optional_within : (o : Option Value) → ((v : Value) → o ≡ Some v → width_of v ≤ n) → IsOutcomeWithin n (optional_of o)
   optional_within None h = tt
   optional_within (Some v) h = h v refl
 
@@ -54,7 +54,7 @@ module _ (n : ℕ) where
   item_within : (is : Items) (i : ℕ) → width_of (list is) ≤ n → (v : Value) → slice_get (list_of is) i ≡ Some v → width_of v ≤ n
   item_within is i h v e = let g = parts_are_narrower.item is i v e in omega arith
 
-  sel_within : (v : Value) (f : List ℕ) → width_of v ≤ n → IsWithin n (sel v f)
+  sel_within : (v : Value) (f : List ℕ) → width_of v ≤ n → IsOutcomeWithin n (sel v f)
   sel_within null f h = tt
   sel_within (boolean b) f h = tt
   sel_within (int z) f h = tt
@@ -62,7 +62,7 @@ module _ (n : ℕ) where
   sel_within (list is) f h = tt
   sel_within (map es) f h = optional_within (find f es) (entry_within es f h)
 
-  at_within : (v k : Value) → width_of v ≤ n → IsWithin n (at v k)
+  at_within : (v k : Value) → width_of v ≤ n → IsOutcomeWithin n (at v k)
   at_within null null h = tt
   at_within null (boolean b) h = tt
   at_within null (int z) h = tt
@@ -113,7 +113,7 @@ module _ (n : ℕ) where
   index_of_within (map es) (list js) h = omega arith
   index_of_within (map es) (map fs) h = omega arith
 
-  pub field_within : (o : Access) (x : Outcome) (f : List ℕ) → IsWithin n x → IsWithin n (field_in o x f)
+  pub field_within : (o : Access) (x : Outcome) (f : List ℕ) → IsOutcomeWithin n x → IsOutcomeWithin n (field_in o x f)
   field_within Plain failed f h = tt
   field_within Plain (plain v) f h = outcome_within (field_of (value v) f) (field_of_within v f h)
   field_within Plain absent f h = tt
@@ -123,7 +123,7 @@ module _ (n : ℕ) where
   field_within Optional absent f h = tt
   field_within Optional (present v) f h = sel_within v f h
 
-  pub index_within : (o : Access) (x k : Outcome) → IsWithin n x → IsWithin n (index_in o x k)
+  pub index_within : (o : Access) (x k : Outcome) → IsOutcomeWithin n x → IsOutcomeWithin n (index_in o x k)
   index_within Plain failed k h = tt
   index_within Plain (plain v) failed h = tt
   index_within Plain (plain v) (plain k) h = outcome_within (index_of (value v) (value k)) (index_of_within v k h)

@@ -12,7 +12,7 @@ use Rattle.wide_meaning.specs.Functions.{some_unless_zero, is_zero}
 use Rattle.wide_meaning.specs.Meaning.{selected as field_selected}
 use Rattle.wide_meaning.specs.Outcome.{value_or, first_of, value_in}
 use Rattle.wide_meaning.specs.Outcome.{Outcome, failed, plain, absent, present}
-use Rattle.wide_widths.specs.Law.{IsWithin, AreRootsWithin, IsEnvironmentWithin}
+use Rattle.wide_widths.specs.Law.{IsOutcomeWithin, AreRootsWithin, IsEnvironmentWithin}
 use Rattle.wide_widths.specs.Narrow.{NarrowNames, binding, known, selected}
 
 pub and_left : (a b : Bool) → (a && b) ≡ true → a ≡ true
@@ -26,11 +26,11 @@ and_right false b h = absurd (cc)
 module _ (n : ℕ) where
   -- ---- names
 
-  root_at : (b : Bool) (v : Value) (o : Option Value) → width_of v ≤ n → IsWithin n (plain_or_failed o) → IsWithin n (plain_or_failed (if b then Some v else o))
+  root_at : (b : Bool) (v : Value) (o : Option Value) → width_of v ≤ n → IsOutcomeWithin n (plain_or_failed o) → IsOutcomeWithin n (plain_or_failed (if b then Some v else o))
   root_at true v o h g = h
   root_at false v o h g = g
 
-  pub root_within : (x : List ℕ) (roots : Roots) → AreRootsWithin n roots → IsWithin n (root_in x roots)
+  pub root_within : (x : List ℕ) (roots : Roots) → AreRootsWithin n roots → IsOutcomeWithin n (root_in x roots)
   root_within x roots h =
       root_at (bytes_eq (codes "object") x) roots.object _ h.object
       (root_at (bytes_eq (codes "oldObject") x) roots.old_object _ h.old_object
@@ -38,11 +38,11 @@ module _ (n : ℕ) where
       (root_at (bytes_eq (codes "namespaceObject") x) roots.namespace_object _ h.namespace_object
       (root_at (bytes_eq (codes "request") x) roots.request None h.request tt))))
 
-  item_or_within : (o : Option Value) (outside : Outcome) → ((v : Value) → o ≡ Some v → width_of v ≤ n) → IsWithin n outside → IsWithin n (item_or o outside)
+  item_or_within : (o : Option Value) (outside : Outcome) → ((v : Value) → o ≡ Some v → width_of v ≤ n) → IsOutcomeWithin n outside → IsOutcomeWithin n (item_or o outside)
   item_or_within None outside h g = g
   item_or_within (Some v) outside h g = h v refl
 
-  pub name_within : (x : List ℕ) (s : NarrowNames) (env : WideEnvironment) → IsEnvironmentWithin n s env → known (lookup x s.names) ≡ true → IsWithin n (name_in x env)
+  pub name_within : (x : List ℕ) (s : NarrowNames) (env : WideEnvironment) → IsEnvironmentWithin n s env → known (lookup x s.names) ≡ true → IsOutcomeWithin n (name_in x env)
   name_within x s env h k =
       item_or_within (lookup x env.items) (root_in x env.roots) (λ v e. h.named x v k e) (root_within x env.roots h.roots)
 
@@ -73,8 +73,8 @@ module _ (n : ℕ) where
   -- ---- fields
 
   pub selected_within : (b : Bool) (o : Access) (v a : Bool) (f : List ℕ) (x : Outcome) (env : WideEnvironment)
-      → (v ≡ true → IsWithin n (variable_in f env.variables)) → (a ≡ true → IsWithin n (field_in o x f))
-      → selected b o v a ≡ true → IsWithin n (field_selected b o f x env)
+      → (v ≡ true → IsOutcomeWithin n (variable_in f env.variables)) → (a ≡ true → IsOutcomeWithin n (field_in o x f))
+      → selected b o v a ≡ true → IsOutcomeWithin n (field_selected b o f x env)
   selected_within true Plain v a f x env h g k = h k
   selected_within true Optional v a f x env h g k = g k
   selected_within false Plain v a f x env h g k = g k
@@ -82,34 +82,34 @@ module _ (n : ℕ) where
 
   -- ---- the conditional
 
-  pub chosen_within : (t : Truth) (a b : Outcome) → IsWithin n a → IsWithin n b → IsWithin n (chosen t a b failed)
+  pub chosen_within : (t : Truth) (a b : Outcome) → IsOutcomeWithin n a → IsOutcomeWithin n b → IsOutcomeWithin n (chosen t a b failed)
   chosen_within Yes a b h g = h
   chosen_within No a b h g = g
   chosen_within Other a b h g = tt
 
-  pub either_within : (x y : Outcome) → IsWithin n x → IsWithin n y → IsWithin n (value_or x y)
+  pub either_within : (x y : Outcome) → IsOutcomeWithin n x → IsOutcomeWithin n y → IsOutcomeWithin n (value_or x y)
   either_within failed y h g = tt
   either_within (plain v) y h g = tt
   either_within absent y h g = g
   either_within (present v) y h g = h
 
-  pub first_within : (x y : Outcome) → IsWithin n x → IsWithin n y → IsWithin n (first_of x y)
+  pub first_within : (x y : Outcome) → IsOutcomeWithin n x → IsOutcomeWithin n y → IsOutcomeWithin n (first_of x y)
   first_within failed y h g = tt
   first_within (plain v) y h g = tt
   first_within absent y h g = g
   first_within (present v) y h g = h
 
-  pub inner_within : (x : Outcome) → IsWithin n x → IsWithin n (value_in x)
+  pub inner_within : (x : Outcome) → IsOutcomeWithin n x → IsOutcomeWithin n (value_in x)
   inner_within failed h = tt
   inner_within (plain v) h = tt
   inner_within absent h = tt
   inner_within (present v) h = h
 
-  nonzero_within : (b : Bool) (v : Value) → width_of v ≤ n → IsWithin n (if b then absent else present v)
+  nonzero_within : (b : Bool) (v : Value) → width_of v ≤ n → IsOutcomeWithin n (if b then absent else present v)
   nonzero_within true v h = tt
   nonzero_within false v h = h
 
-  pub some_nonzero_within : (x : Outcome) → IsWithin n x → IsWithin n (some_unless_zero x)
+  pub some_nonzero_within : (x : Outcome) → IsOutcomeWithin n x → IsOutcomeWithin n (some_unless_zero x)
   some_nonzero_within failed h = tt
   some_nonzero_within (plain v) h = nonzero_within (is_zero v) v h
   some_nonzero_within absent h = tt

@@ -10,11 +10,11 @@ use Rattle.wide_meaning.specs.Outcome.{Outcome, failed, plain, absent, present}
 use Rattle.wide_widths.specs.Narrow.{NarrowNames, is_narrow, is_hidden, known, literal_limit}
 
 -- the value, if there is one, is at most this wide
-abbrev pub IsWithin : ℕ → Outcome → Type 0
-IsWithin n failed = ⊤
-IsWithin n absent = ⊤
-IsWithin n (plain v) = width_of v ≤ n
-IsWithin n (present v) = width_of v ≤ n
+abbrev pub IsOutcomeWithin : ℕ → Outcome → Type 0
+IsOutcomeWithin n failed = ⊤
+IsOutcomeWithin n absent = ⊤
+IsOutcomeWithin n (plain v) = width_of v ≤ n
+IsOutcomeWithin n (present v) = width_of v ≤ n
 
 -- the documents are at most this wide
 pub record AreRootsWithin (n : ℕ) (roots : Roots) : Type 0 where
@@ -30,10 +30,10 @@ pub record IsEnvironmentWithin (n : ℕ) (s : NarrowNames) (env : WideEnvironmen
   pub literals : literal_limit ≤ n
   pub named : (x : List ℕ) (v : Value) → known (lookup x s.names) ≡ true → lookup x env.items ≡ Some v → width_of v ≤ n
   pub hidden : is_hidden s ≡ hides_variables env.items
-  pub varied : (x : List ℕ) → known (lookup x s.variables) ≡ true → IsWithin n (variable_in x env.variables)
+  pub varied : (x : List ℕ) → known (lookup x s.variables) ≡ true → IsOutcomeWithin n (variable_in x env.variables)
 
 -- in such an environment the value of a narrow expression is at most this wide, whatever the calls mean that
 -- `wide_meaning` leaves open
 abbrev pub NarrowMeansWithin : Type 0
 NarrowMeansWithin = (others : Wide → WideEnvironment → Outcome) (n : ℕ) (s : NarrowNames) (env : WideEnvironment) (e : Wide)
-    → IsEnvironmentWithin n s env → is_narrow s e ≡ true → IsWithin n (wide_meaning others e env)
+    → IsEnvironmentWithin n s env → is_narrow s e ≡ true → IsOutcomeWithin n (wide_meaning others e env)
