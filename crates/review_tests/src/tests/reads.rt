@@ -78,7 +78,7 @@ fn ends_a_search_at_its_limits(rt: HostRuntime) -> Result<(), Fail> {
     for &(steps, reads, end) in SEARCHES.iter() {
         let limits = Limits { steps, reads };
         let is = ends_in(rt.alloc(), CONTAINS, object.as_str(), limits)?;
-        assert_eq!(rt; is, end, "{steps} steps, {reads} reads");
+        assert!(rt; is == end, "{steps} steps, {reads} reads");
     }
     Ok(())
 }
@@ -91,7 +91,7 @@ fn reviews_without_a_limit_of_reads(rt: HostRuntime) -> Result<(), Fail> {
     let document = review_of(rt.alloc(), object.as_str())?;
     for (steps, end) in [(24, OUT_OF_STEPS), (25, DENIED)] {
         let answer = review(rt.alloc(), &policy, &document, None, None, steps);
-        assert_eq!(rt; end_of(answer), end, "{steps} steps");
+        assert!(rt; end_of(answer) == end, "{steps} steps");
     }
     Ok(())
 }
@@ -138,11 +138,11 @@ fn reads_no_more_than_its_limit(rt: HostRuntime) -> Result<(), Fail> {
         };
         for reads in [least, ALL] {
             let is = ends_in(rt.alloc(), spec, object, limits(reads))?;
-            assert_eq!(rt; is, end, "row {row}, {reads} reads");
+            assert!(rt; is == end, "row {row}, {reads} reads");
         }
         for reads in [0, least - 1] {
             let is = ends_in(rt.alloc(), spec, object, limits(reads))?;
-            assert_eq!(rt; is, OUT_OF_READS, "row {row}, {reads} reads");
+            assert!(rt; is == OUT_OF_READS, "row {row}, {reads} reads");
         }
     }
     Ok(())
@@ -162,7 +162,7 @@ fn ends_at_the_first_of_two_limits(rt: HostRuntime) -> Result<(), Fail> {
             reads,
         };
         let is = ends_in(rt.alloc(), DOUBLES, object.as_str(), limits)?;
-        assert_eq!(rt; is, end, "{reads} reads");
+        assert!(rt; is == end, "{reads} reads");
     }
     Ok(())
 }
@@ -194,7 +194,7 @@ fn ends_a_loop_of_searches(rt: HostRuntime) -> Result<(), Fail> {
             reads,
         };
         let is = ends_in(rt.alloc(), EACH, object.as_str(), limits)?;
-        assert_eq!(rt; is, end, "{items} items, {reads} reads");
+        assert!(rt; is == end, "{items} items, {reads} reads");
     }
     Ok(())
 }
