@@ -4,7 +4,7 @@
     entry        how a script begins and ends: words, streams, statuses
     commands     a module for each script in Python
     vapctl       the command `vapctl`, a module for each subcommand
-    documents    policies, reviews and tests, read as JSON or YAML
+    documents    policies, reviews and tests, read as JSON or YAML (`yaml_loader`, `yaml_words`)
     definitions  the definitions in the folders `specs`, read by their names
     assembling   a friendlier text of programs than `celbpf asm` takes
     asking       questions to the built program about a policy

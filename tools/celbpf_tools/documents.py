@@ -11,6 +11,7 @@ from . import yaml_words
 from .aliases import DEEPEST, refuse_large
 from .entry import Stop
 from .vapctl.numbers import NotJson, sent
+from .yaml_loader import MERGE, loader_of
 
 try:
     yaml: Any = importlib.import_module("yaml")
@@ -19,17 +20,9 @@ except ImportError:
 
 STDIN = "-"
 YAML_NAMES = (".yaml", ".yml")
-# PyYAML takes more texts for numbers and dates than a cluster does: 1:30 is a text there, and so are 2026-11-26 and =
-NOT_RESOLVED = ("tag:yaml.org,2002:timestamp", "tag:yaml.org,2002:int", "tag:yaml.org,2002:float", "tag:yaml.org,2002:value")
-# which `kubectl` takes for bools beside `yes` and `no`, and PyYAML does not
-LETTERS = {"y": True, "n": False}
-# the tag of the key `<<`, which may be there twice
-MERGE = "tag:yaml.org,2002:merge"
 # only texts with so many brackets, or a line that begins with so many indentations, may have more than DEEPEST lists and
 # maps inside one another
 MAYBE_DEEP = re.compile(r"(?:[\[{][^\[{]*){300}|^[ \-?:]{300}", re.MULTILINE)
-INT = re.compile(r"[-+]?(?:0|[1-9][0-9_]*|0x[0-9a-fA-F_]+|0o?[0-7_]+|0b[01_]+)$")
-FLOAT = re.compile(r"[-+]?(?:\.[0-9]+|[0-9]+(?:\.[0-9]*)?)(?:[eE][-+]?[0-9]+)?$|[-+]?\.(?:inf|Inf|INF)$|\.(?:nan|NaN|NAN)$")
 
 
 def yaml_package() -> Any:
@@ -72,20 +65,8 @@ def json_fault(text: str) -> Optional[str]:
 
 
 def loader(base: Any = None) -> Any:
-    """A loader of YAML that takes numbers and bools as a cluster does, and dates as texts; `base` is a safe loader of the package."""
-
-    class Loader(base or yaml.SafeLoader):  # type: ignore[misc]
-        """YAML 1.1 without dates and without numbers to the base of 60."""
-
-    Loader.yaml_implicit_resolvers = {
-        first: [(tag, found) for tag, found in pairs if tag not in NOT_RESOLVED]
-        for first, pairs in yaml.SafeLoader.yaml_implicit_resolvers.items()
-    }
-    Loader.bool_values = {**yaml.SafeLoader.bool_values, **LETTERS}
-    Loader.add_implicit_resolver("tag:yaml.org,2002:bool", re.compile("[yYnN]$"), list("yYnN"))
-    Loader.add_implicit_resolver("tag:yaml.org,2002:int", INT, list("-+0123456789"))
-    Loader.add_implicit_resolver("tag:yaml.org,2002:float", FLOAT, list("-+0123456789."))
-    return Loader
+    """A loader of YAML that reads it as `kubectl` does; `base` is a safe loader of the package."""
+    return loader_of(yaml, base or yaml.SafeLoader)
 
 
 def too_deep(text: str) -> Any:

@@ -16,7 +16,7 @@ from .commands_manual import of_parser
 from .completion import NAMES, bash, zsh
 
 # the files and the packages of Python that `vapctl` needs, which need nothing of the repository
-FILES = ("__init__.py", "aliases.py", "documents.py", "entry.py", "home.py", "yaml_words.py")
+FILES = ("__init__.py", "aliases.py", "documents.py", "entry.py", "home.py", "yaml_loader.py", "yaml_words.py")
 MODULES = ("asking", "assembling", "testing", "evaluator", "manifests", "slots", "viewing", "dap", "vapctl")
 ENTRY = '''#!/usr/bin/env python3
 """{what}"""

@@ -69,7 +69,7 @@ class Yaml(Files):
         self.assertEqual(self.refused(self.file("b.yaml", "a: &a [*a]\n")), "b.yaml: a value has itself as a part, by an alias")
 
     def test_what_json_does_not_have(self) -> None:
-        for text, why in [("a: [!!timestamp 2026-11-26]\n", "a[0] is a date"), ("a: !!set {x}\n", "a is a set"), ("a: !!binary AA==\n", "a is a bytes")]:
+        for text, why in [("a: [!!timestamp 2026-11-26]\n", "a[0] is a date"), ("a: !!set {x}\n", "a is a set")]:
             with self.subTest(text):
                 self.assertEqual(self.refused(self.file("a.yaml", text)), f"a.yaml: {why}, which JSON does not have")
 
@@ -80,6 +80,26 @@ class Yaml(Files):
     def test_a_merge_may_be_repeated_and_overridden(self) -> None:
         path = self.file("a.yaml", "a: &a {x: 1, w: 1}\nb: &b {<<: *a, <<: {z: 2}, x: 3}\nc: {<<: *b, x: 4}\n")
         self.assertEqual(documents.one_in(path)["c"], {"x": 4, "w": 1, "z": 2})
+
+    def test_what_is_later_counts_if_a_merge_brings_it_too(self) -> None:
+        path = self.file("a.yaml", "a: &a {x: 1}\nb: &b {x: 2, z: 2}\nc: {x: 5, <<: *a}\nd: {<<: [*a, *b]}\n")
+        self.assertEqual(documents.one_in(path), {"a": {"x": 1}, "b": {"x": 2, "z": 2}, "c": {"x": 1}, "d": {"x": 1, "z": 2}})
+        self.assertEqual(self.refused(self.file("b.yaml", "a: {<<: 5}\n")), "b.yaml: what `<<` brings is no map at line 1 column 9")
+
+    def test_merges_that_are_repeated_do_not_grow(self) -> None:
+        lines = ["a0: &a0 {x: 1}", *(f"a{n}: &a{n} {{<<: [*a{n - 1}, *a{n - 1}]}}" for n in range(1, 60))]
+        self.assertEqual(documents.one_in(self.file("a.yaml", "\n".join(lines)))["a59"], {"x": 1})
+
+    def test_numbers_as_kubectl_reads_them(self) -> None:
+        """Each value is the one that `kubectl label --local -o json` printed."""
+        for text, value in [
+            ("010", 8), ("0o10", 8), ("0b11", 3), ("-0x10", -16), ("1_000", 1000), ("0x1F_F", 511), ("08", 8), ("1e3", 1000), ("+.5", 0.5),
+            ("1_0.5", 10.5), (".1_0", 0.1), ("1.5_", 1.5), ("1e400", "1e400"), ("-7e12345", "-7e12345"), ("1.7976931348623157e309",) * 2,
+            ("0xFFFFFFFFFFFFFFFFF",) * 2, ("0xFFFFFFFFFFFFFFFF", 2**64 - 1), ("0b102", "0b102"), ("_1", "_1"), ("1e", "1e"), (".", "."),
+            ("!!binary aGk=", "hi"), ("<<", "<<"), ("=", "="), ("1:30", "1:30"), ("!!str 12", "12"), ("!!float 3", 3),
+        ]:
+            with self.subTest(text):
+                self.assertEqual(documents.one_in(self.file("a.yaml", f"a: {text}\n")), {"a": value})
 
     def test_a_map_that_aliases_repeat_is_read_once(self) -> None:
         lines = ["a0: &a0 {x: 1}", *(f"a{n}: &a{n} [*a{n - 1}, *a{n - 1}]" for n in range(1, 60))]

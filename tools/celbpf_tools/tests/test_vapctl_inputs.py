@@ -90,6 +90,7 @@ class Json(Read):
         self.assertEqual(self.read(self.file("a.json", one % ("ConfigMap", "[1]")))[0], ["a.json:1 ConfigMap"])
         self.assertEqual(self.read(self.file("a.json", one % ("List", "{}")))[0], ["a.json:1 List"])
         self.assertEqual(self.read(self.file("a.json", one % ("List", "[]"))), ([], []))
+        self.assertEqual(self.read(self.file("a.json", one % ("List", "null"))), ([], []))
 
 
 @unittest.skipIf(documents.yaml_package() is None, "PyYAML is not installed")
@@ -124,7 +125,7 @@ class Yaml(Read):
             ("a: !!python/object:os.system x\n", "a.yaml:1: a text begins with `!`, .* `!!python/object:os.system` at column 4; put it into quotes"),
             ("a: " + "[" * 1000, "a.yaml:1: it is nested too deep at column 30[0-9]"),
             ("- " * 1000, "a.yaml:1: it is nested too deep at column .*"),
-            ("apiVersion: v1\nkind: Node\na: !!binary aGFsbG8=\n", "a.yaml:1: a is a bytes, which JSON does not have"),
+            ("apiVersion: v1\nkind: Node\na: !!timestamp 2026-01-01\n", "a.yaml:1: a is a date, which JSON does not have"),
             ("apiVersion: v1\nkind: Node\na: !!set {x, y}\n", "a.yaml:1: a is a set, which JSON does not have"),
             ("a: \x07\n", "a.yaml: .*"),
         ):

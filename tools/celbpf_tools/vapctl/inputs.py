@@ -243,8 +243,8 @@ class Inputs:
             one = waiting.pop(0)
             if fault := why_no_object(one):
                 self.troubles.append(Trouble(place, "; ".join(filter(None, (fault, advice(name, one))))))
-            elif one["kind"].endswith("List") and isinstance(one.get("items"), list):
-                waiting = [*one["items"], *waiting]
+            elif one["kind"].endswith("List") and isinstance(one.get("items", ""), (list, type(None))):
+                waiting = [*(one["items"] or ()), *waiting]
             else:
                 yield Thing(with_name_label(one), place)
 
