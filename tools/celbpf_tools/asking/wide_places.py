@@ -7,6 +7,7 @@ from . import operands
 from .places import Refusals, cause_of
 from .policies import Part, as_variable, bound
 from .splitter import NotCut, Piece
+from .wide_functions import LATER
 from .wide_splitter import WidePiece, cut, namespace_of
 
 # methods that only an optional value has, and those whose argument is one
@@ -14,8 +15,8 @@ OF_OPTIONALS = ("hasValue", "value", "orValue", "or", "optMap", "optFlatMap")
 TAKES_OPTIONAL = ("or", "optFlatMap")
 # methods and macros that make one
 MAKES_OPTIONAL, OVER_OPTIONAL = ("or", "first", "last", "of", "none", "ofNonZeroValue"), ("optMap", "optFlatMap")
-# the methods that there are
-KNOWN = {"size", "startsWith", "endsWith", "contains", "first", "last", "min", "max", *OF_OPTIONALS}
+# the methods that there are, or are of any value: after a refused call such a method is asked too
+KNOWN = {"size", "startsWith", "endsWith", "contains", "first", "last", "min", "max", *OF_OPTIONALS, *LATER}
 # the refusal of a text that is too deep to be cut into pieces
 TOO_DEEP = "W10"
 # what stands for a piece that is refused, so that what is around it is asked
@@ -126,8 +127,10 @@ class Places:
             return self.made(cause, 0, len(self.text), name_of(refusal))
         refusals = WideRefusals(self.program, Part("variable", 0, self.text, self.part.scope), cause)
         (*around, piece), frames = refusals.path(whole, [])
-        name = name_of(self.program.refusal(as_variable(self.part.scope, bound(self.text[piece.begin : piece.end], frames))))
-        found = self.made(cause, *self.shown(piece, name), name or name_of(refusal))
+        own = self.program.refusal(as_variable(self.part.scope, bound(self.text[piece.begin : piece.end], frames)))
+        # the whole may be refused first for another name, of what is around the piece
+        name = name_of(own if cause_of(own) == cause else refusal)
+        found = self.made(cause, *self.shown(piece, name), name)
         all_of_it = self.made(cause, piece.begin, piece.end, "")
         found.text = self.part.text[all_of_it.begin : all_of_it.end]
         found.piece, found.around, found.frames = piece, tuple(around), frames

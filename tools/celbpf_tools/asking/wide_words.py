@@ -4,37 +4,12 @@ import re
 
 from . import syntax_words
 from .refused import MEANINGS
+from .wide_functions import LATER, NOT_THERE
 from .wide_places import OF_OPTIONALS, Found
 from .wide_splitter import NAMESPACES, namespace_of
 
 # names of types, which are no values here
 TYPES = ("int", "uint", "double", "string", "bool", "bytes", "null_type", "list", "map", "type")
-# functions and methods of API servers that are not supported, and what to write instead, if it is known
-LATER = {
-    "matches": "startsWith, endsWith or contains for a fixed text, `e in ['a', 'b']` for a choice",
-    "split": "`(',' + e + ',').contains(',' + x + ',')` for `x in e.split(',')`, `e == 'a' || e.startsWith('a/')` for a first part",
-    "join": "an item, such as `l[0]`",
-    "format": "`+`, with `string(e)` for an int or a bool",
-    "substring": "startsWith or endsWith",
-    "indexOf": "contains",
-    "lastIndexOf": "contains or endsWith",
-    "replace": "", "trim": "", "charAt": "", "find": "", "findAll": "",
-    "lowerAscii": "each spelling: `e in ['a', 'A']`",
-    "upperAscii": "each spelling: `e in ['a', 'A']`",
-    "sum": "", "isSorted": "", "distinct": "", "reverse": "", "slice": "", "flatten": "", "sort": "",
-    "type": "",
-    "int": "an int in the document, or a comparison of texts such as `e == '3'`", "double": "an int", "uint": "an int", "bytes": "a text",
-    "quantity": "if few are allowed, a choice of texts, such as `e in ['500m', '1']`; nothing compares quantities",
-    "isQuantity": "", "duration": "a choice of texts", "timestamp": "", "semver": "startsWith for a major version",
-    "isSemver": "", "ip": "", "isIP": "", "cidr": "", "isCIDR": "", "url": "startsWith", "isURL": "startsWith",
-    "strings.quote": "", "lists.range": "the list itself, as `[0, 1, 2]`",
-}
-# what API servers up to 1.36 do not have
-NOT_THERE = {
-    "cel.bind": "a variable of the policy",
-    "math.greatest": "`a > b ? a : b`", "math.least": "`a < b ? a : b`", "math.abs": "`a < 0 ? -a : a`",
-    "existsOne": "`exists_one`",
-}
 # macros of two names whose kin of one name has another
 OF_ONE_NAME = {"transformList": "map", "existsOne": "exists_one"}
 # a name after a dot, and a minus
@@ -132,7 +107,7 @@ def form_told(found: Found) -> tuple[str, str]:
     assert piece is not None
     if piece.kind == "macro":
         word = OF_ONE_NAME.get(piece.word, piece.word)
-        hint = f"of a map `m.{word}(k, ..)` with `m[k]` for the value, of a list `l.{word}(x, ..)`, which has no index"
+        hint = f"`m.{word}(k, ..)` of a map, with `m[k]` for the value, or `l.{word}(x, ..)` of a list, whose items have no index"
         return f"`{piece.name.split()[0]}` may be used only if the range is known to be a map", hint
     if piece.form == "index":
         return "an optional index is a text or an int of at least 0, written out", "`k in e ? e[k] : ..`"

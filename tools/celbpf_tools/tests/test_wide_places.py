@@ -82,7 +82,7 @@ MOST = 9
 
 
 class Program:
-    """Stands in for a gatekeeper that has no function `bad`, no double, and a macro of one name only."""
+    """Stands in for a gatekeeper that has no function `bad` or `join`, no double, and a macro of one name only."""
 
     def refusal(self, policy: Any) -> str:
         for place, variable in enumerate(policy["spec"]["variables"]):
@@ -91,9 +91,9 @@ class Program:
                 return f"K6 variable {place} W2 at {len(text[: double.start()].encode())}"
             if text.count("[") > MOST:
                 return f"K6 variable {place} W10"
-            for cause in (r"\bbad\(", r"\.all\(\w+, \w+,"):
-                if re.search(cause, text):
-                    return f"K6 variable {place} W5{' bad' if 'bad' in cause else ''}"
+            for name, call in {" bad": r"\bbad\(", " join": r"\bjoin\(", "": r"\.all\(\w+, \w+,"}.items():
+                if re.search(call, text):
+                    return f"K6 variable {place} W5{name}"
         return ""
 
 
@@ -110,6 +110,8 @@ class Refused(unittest.TestCase):
             ("a == bad(1) && b.bad(2)", [("W5", "bad", "bad(1)"), ("W5", "bad", "bad")]),
             ("l.exists(x, x == bad(x)) || bad(2)", [("W5", "bad", "bad(x)"), ("W5", "bad", "bad(2)")]),
             ("m.all(k, v, bad(v))", [("W5", "bad", "bad(v)"), ("W5", "", "m.all(k, v, bad(v))")]),
+            # the whole is refused for `join` first, and what it is asked of for another reason
+            ("m.all(k, v, true).join(',')", [("W5", "", "m.all(k, v, true)"), ("W5", "join", "join")]),
             # what follows a refused call by a method that there is not is no refusal of its own
             ("bad(1).get() == 2", [("W5", "bad", "bad(1)")]),
             ("  'é' == a && 1.5 < b + 2.5", [("W2", "", "1.5"), ("W2", "", "2.5")]),
@@ -147,7 +149,7 @@ class Words(unittest.TestCase):
             ("o[k]", "W4", "", ("an optional value is indexed by what is no literal", "`k in o.orValue({}) ? o.orValue({})[k] : ..`")),
             ("m.transformList(k, v, k)", "W5", "",
              ("`k` may be used only if the range is known to be a map",
-              "of a map `m.map(k, ..)` with `m[k]` for the value, of a list `l.map(x, ..)`, which has no index")),
+              "`m.map(k, ..)` of a map, with `m[k]` for the value, or `l.map(x, ..)` of a list, whose items have no index")),
             ("a.b", "W10", "", ("it is nested more than 512 deep", "variables for parts of it")),
             ("a", "M3", "", ("has() is asked of what is no field", "")),
         ]:

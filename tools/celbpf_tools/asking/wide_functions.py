@@ -1,0 +1,28 @@
+"""Functions and methods that policies as clusters store them may not have, and what to write instead."""
+
+# functions and methods of API servers that are not supported, and what to write instead, if it is known
+LATER = {
+    "matches": "startsWith, endsWith or contains for a fixed text, `e in ['a', 'b']` for a choice",
+    "split": "`(',' + e + ',').contains(',' + x + ',')` for `x in e.split(',')`, `e == 'a' || e.startsWith('a/')` for a first part",
+    "join": "an item, such as `l[0]`",
+    "format": "`+`, with `string(e)` for an int or a bool",
+    "substring": "startsWith or endsWith",
+    "indexOf": "contains",
+    "lastIndexOf": "contains or endsWith",
+    "replace": "", "trim": "", "charAt": "", "find": "", "findAll": "",
+    "lowerAscii": "each spelling: `e in ['a', 'A']`",
+    "upperAscii": "each spelling: `e in ['a', 'A']`",
+    "sum": "", "isSorted": "", "distinct": "", "reverse": "", "slice": "", "flatten": "", "sort": "",
+    "type": "",
+    "int": "an int in the document, or a comparison of texts such as `e == '3'`", "double": "an int", "uint": "an int", "bytes": "a text",
+    "quantity": "if few are allowed, a choice of texts, such as `e in ['500m', '1']`; nothing compares quantities",
+    "isQuantity": "", "duration": "a choice of texts", "timestamp": "", "semver": "startsWith for a major version",
+    "isSemver": "", "ip": "", "isIP": "", "cidr": "", "isCIDR": "", "url": "startsWith", "isURL": "startsWith",
+    "strings.quote": "", "lists.range": "the list itself, as `[0, 1, 2]`",
+}
+# what API servers up to 1.36 do not have
+NOT_THERE = {
+    "cel.bind": "a variable of the policy",
+    "math.greatest": "`a > b ? a : b`", "math.least": "`a < b ? a : b`", "math.abs": "`a < 0 ? -a : a`",
+    "existsOne": "`exists_one`",
+}
