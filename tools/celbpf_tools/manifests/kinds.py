@@ -112,6 +112,7 @@ class Resources:
     def __init__(self) -> None:
         self.known: dict[tuple[str, str, str], Resource] = {}
         self.add(built_in())
+        self.built_in_groups = {one.group for one in self.known.values()}
 
     def add(self, resources: Iterator[Resource]) -> None:
         for one in resources:
@@ -122,6 +123,11 @@ class Resources:
         for thing in things:
             if (group_version(thing["apiVersion"])[0], thing["kind"]) == DEFINITION:
                 self.add(served(thing))
+
+    def is_alone(self, group: str, plural: str) -> bool:
+        """Whether a resource has one version, and none in another group, so that no API server converts a request for it."""
+        groups = self.built_in_groups if group in self.built_in_groups else {group}
+        return sum(one.plural == plural and one.group in groups for one in self.known.values()) == 1
 
     def of(self, thing: dict[str, Any]) -> Optional[Resource]:
         """The resource of an object, or None if its kind is not known."""

@@ -212,6 +212,22 @@ class Tables(unittest.TestCase):
         found = {(one.group, one.kind) for one in built_in()}
         self.assertEqual(len(found), 60)
 
+    def test_resources_that_no_server_converts(self) -> None:
+        versions = [{"name": "v1", "served": True}, {"name": "v2", "served": True}, {"name": "v3", "served": False}]
+        names = {"kind": "Widget", "plural": "widgets"}
+        definition = {"apiVersion": "apiextensions.k8s.io/v1", "kind": "CustomResourceDefinition"}
+        one = {**definition, "spec": {"group": "one.io", "names": names, "scope": "Cluster", "versions": versions[::2]}}
+        two = {**definition, "spec": {"group": "two.io", "names": names, "scope": "Cluster", "versions": versions}}
+        resources = Resources()
+        resources.define([one, two])
+        for group, plural, is_alone in [
+            ("", "namespaces", True), ("apps", "deployments", True), ("autoscaling", "horizontalpodautoscalers", False),
+            ("", "events", False), ("events.k8s.io", "events", False), ("one.io", "widgets", True), ("two.io", "widgets", False),
+            ("three.io", "widgets", False),
+        ]:
+            with self.subTest(group=group, plural=plural):
+                self.assertEqual(resources.is_alone(group, plural), is_alone)
+
     def test_resources_that_are_not_guessed(self) -> None:
         resources = Resources()
         for version, kind, plural, namespaced in [

@@ -194,12 +194,19 @@ def report_of(given: argparse.Namespace, progress: Callable[[], None] = lambda: 
             stop(why.lines)
         warn(given, deciding)
         tell_unlabelled(deciding.state, resources, made.asked)
-        for result, answer in zip(made.asked, deciding.decide(made.lines)):
+        for result, answer in zip(made.asked, deciding.decide(made.lines, alone(made.asked, resources))):
             result.outcome, result.message, result.findings = answer
     refused = list(deciding.blocked) if given.policies else []
     report = Report(made.results, found.troubles, deciding.policies, given.fail_on_warn, made.left_out, refused)
     tell_errors(report)
     return report
+
+
+def alone(asked: list[Result], resources: Resources) -> list[bool]:
+    """Of each result whether its resource is one that no API server converts."""
+    found = [resources.of(one.thing.value) for one in asked]
+    known = {one: one is not None and resources.is_alone(one.group, one.plural) for one in set(found)}
+    return [known[one] for one in found]
 
 
 def tell_errors(report: Report) -> None:

@@ -11,6 +11,7 @@ from typing import Any, Optional
 from ..asking import policies
 from ..asking.program import NotAnswered, Program
 from ..asking.translating import Translating
+from ..manifests.kinds import Resources
 from . import matching, telling
 from .cluster import policy_of, spec_of
 from .deciding import Deciding
@@ -57,14 +58,16 @@ class Bound:
 class ClusterWhy:
     """The reason of one decision. `only` is the one policy that is shown, if there is one."""
 
-    def __init__(self, deciding: Deciding, line: str, program: Path, folder: Path, only: Optional[str]):
-        self.deciding, self.folder, self.program = deciding, folder, program
+    def __init__(self, deciding: Deciding, line: str, program: Path, only: Optional[str], resources: Resources):
+        self.deciding, self.program, self.folder = deciding, program, deciding.folder
         self.state, self.only = deciding.state, only
         self.request: dict[str, Any] = json.loads(line)["request"]
         self.asked = matching.Asked(self.request, self.state)
-        self.probes = Probes(deciding.gate, self.state, folder, line)
-        self.outcome, self.message, self.findings = next(deciding.decide([line]))
-        (folder / "review.json").write_text(line, encoding="utf-8", errors="surrogatepass")
+        self.probes = Probes(deciding.gate, self.state, self.folder, line)
+        resource: dict[str, Any] = self.request.get("resource") or {}
+        is_alone = resources.is_alone(str(resource.get("group") or ""), str(resource.get("resource")))
+        self.outcome, self.message, self.findings = next(deciding.decide([line], [is_alone]))
+        (self.folder / "review.json").write_text(line, encoding="utf-8", errors="surrogatepass")
 
     def lines(self) -> Iterator[str]:
         """What is printed."""

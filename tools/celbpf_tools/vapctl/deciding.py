@@ -54,6 +54,8 @@ class Deciding:
         self.blocked: dict[str, str] = {}
         # what decides without the bindings of some of these
         self.parts: dict[frozenset[str], Deciding] = {}
+        # what decides of resources that no API server converts
+        self.exact: Optional[Deciding] = None
         self.file = state.written(folder / "state.json")
         self.start()
 
@@ -103,9 +105,28 @@ class Deciding:
         kept = [one for one in self.state.things if key_of(one) != key_of(thing)]
         return not self.gate.started(State([*kept, thing]).written(self.folder / "repaired.json")).returncode
 
-    def decide(self, lines: list[str]) -> Iterator[Decided]:
-        """The outcome, the message and the findings of each review. The gatekeeper does not decide what the constraints of a
-        policy match that it refuses; a cluster asks the policy only if one of its bindings matches too.
+    def decide(self, lines: list[str], are_alone: list[bool]) -> Iterator[Decided]:
+        """The outcome, the message and the findings of each review. `are_alone` tells of each whether its resource is alone: then
+        rules that name another group or version do not match it, and the gatekeeper need not refuse to tell (N6).
+        """
+        decided: dict[int, Decided] = {}
+        for is_alone in sorted(set(are_alone)):
+            places = [place for place, one in enumerate(are_alone) if one == is_alone]
+            part = self.of_alone() if is_alone else self
+            decided.update(zip(places, part.met([lines[place] for place in places])))
+        yield from (decided[place] for place in range(len(lines)))
+
+    def of_alone(self) -> "Deciding":
+        """What decides under the state in which no constraints match by another group or version."""
+        if self.exact is None:
+            folder = self.folder / "exact"
+            folder.mkdir()
+            self.exact = Deciding(self.gate, replace(self.state, things=list(map(exact, self.state.things))), folder)
+        return self.exact
+
+    def met(self, lines: list[str]) -> Iterator[Decided]:
+        """What is decided of each review. The gatekeeper does not decide what the constraints of a policy match that it refuses; a
+        cluster asks the policy only if one of its bindings matches too.
         """
         groups: dict[frozenset[str], list[int]] = {}
         for place, names in enumerate(self.unmet(lines)):
@@ -234,6 +255,13 @@ def stand_ins(state: State, names: Container[str]) -> State:
             kept = {key: spec[key] for key in ("policyName", "matchResources") if key in spec}
             things.append(Thing({**one.value, "spec": {**kept, "validationActions": WARNS}}, one.place))
     return State(things)
+
+
+def exact(thing: Thing) -> Thing:
+    """A policy or a binding whose rules match the resource as it is asked for alone; anything else is unchanged."""
+    key = "matchConstraints" if is_of(thing, POLICY) else "matchResources" if is_of(thing, BINDING) else ""
+    given = spec_of(thing).get(key)
+    return repaired(thing, key, {**given, "matchPolicy": "Exact"}) if isinstance(given, dict) else thing
 
 
 def repaired(thing: Thing, key: str, value: Any) -> Thing:

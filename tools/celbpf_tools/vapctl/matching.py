@@ -42,8 +42,15 @@ class Asked:
         return {
             "operations": self.text("operation"), "apiGroups": str(resource.get("group") or '""'),
             "apiVersions": str(resource.get("version")), "resources": f"{resource.get('resource')}{below}",
-            "scope": "Namespaced" if self.text("namespace") else "Cluster", "resourceNames": self.text("name") or "none",
+            "scope": "Namespaced" if self.text("namespace") and not self.is_of_namespace else "Cluster",
+            "resourceNames": self.text("name") or "none",
         }[dimension]
+
+    @property
+    def is_of_namespace(self) -> bool:
+        """Whether a Namespace is asked for, whose request has its own name as namespace."""
+        resource: dict[str, Any] = self.request.get("resource") or {}
+        return (resource.get("group") or "", resource.get("resource")) == ("", "namespaces")
 
     @property
     def namespace(self) -> Optional[dict[str, Any]]:

@@ -101,14 +101,15 @@ def of_all(given: argparse.Namespace, folder: Path) -> int:
     if review.kind == REVIEW:
         request = review.value.get("request")
         given.namespace = str(isinstance(request, dict) and request.get("namespace") or given.namespace)
+    resources = resources_of([*found.cluster, *found.policies, *found.params, *found.new])
     try:
-        state = state_of(given, found, resources_of([*found.cluster, *found.policies, *found.params, *found.new]))
+        state = state_of(given, found, resources)
         deciding = Deciding(gate_of(given, lambda: None), state, folder)
     except NoState as fault:
         stop(fault.lines)
     if given.name is not None:
         named(deciding.state.policies, given.name, "ValidatingAdmissionPolicy", "--name")
-    shown = ClusterWhy(deciding, line, located(given.program), folder, given.name)
+    shown = ClusterWhy(deciding, line, located(given.program), given.name, resources)
     for one in shown.lines():
         print(on_line(one))
     return STATUSES.get(shown.outcome, REFUSED)
