@@ -19,12 +19,14 @@ from .no_manifests import passed_over
 from .reports.texts import on_line
 from .reports.words import refuse_twice
 from .requests import Asked, NoReview, Reviews, UnknownKind
-from .results import ERROR, UNDECIDED, Finding, Report, Result, plural
+from .results import ERROR, UNDECIDED, Finding, Report, Result, listed, plural
 from .rules import refuse_rules
 from .statuses import REFUSED, WORDS
 
 MADE_HERE = Place("(made here)")
 ALL_LEFT_OUT = "the kind of no object is known, so each is left out"
+# how a line on a policy ends that is not refused, but whose params have an unknown kind
+NO_PARAMS = "(C8)"
 # how the message of an expression with an error ends
 ERROR_WORDS = " resulted in error"
 
@@ -193,6 +195,7 @@ def report_of(given: argparse.Namespace, progress: Callable[[], None] = lambda: 
         except NoState as why:
             stop(why.lines)
         warn(given, deciding)
+        tell_missing(deciding.state, made.asked)
         tell_unlabelled(deciding.state, resources, made.asked)
         for result, answer in zip(made.asked, deciding.decide(made.lines, alone(made.asked, resources))):
             result.outcome, result.message, result.findings = answer
@@ -227,9 +230,19 @@ def warn(given: argparse.Namespace, deciding: Deciding) -> None:
             tell(f"binding {binding.name} has no effect: there is no policy {policy_of(binding)}")
     for name, why in deciding.blocked.items():
         tell(f"policy {name} is not decided: {why}")
+    if not all(why.endswith(NO_PARAMS) for why in deciding.blocked.values()):
+        tell("`vapctl lint` shows where a policy is refused, and what to write instead")
     for policy in deciding.state.policies if given.user is None else ():
         if policy.name in deciding.policies and "userInfo" in str(spec_of(policy)):
             tell(f"policy {policy.name} reads request.userInfo, which no request has without --user")
+
+
+def tell_missing(state: State, asked: list[Result]) -> None:
+    """Tells which namespaces of objects a saved state does not have."""
+    found = sorted({one.namespace for one in asked} - {"", *state.namespaces()})
+    if found:
+        word = "namespace" if len(found) == 1 else "namespaces"
+        tell(f"the state has no {word} {listed(found)}: what a policy matches there is denied, as in a cluster")
 
 
 def tell_unlabelled(state: State, resources: Resources, asked: list[Result]) -> None:

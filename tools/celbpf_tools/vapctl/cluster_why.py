@@ -64,8 +64,8 @@ class ClusterWhy:
         self.request: dict[str, Any] = json.loads(line)["request"]
         self.asked = matching.Asked(self.request, self.state)
         self.probes = Probes(deciding.gate, self.state, self.folder, line)
-        resource: dict[str, Any] = self.request.get("resource") or {}
-        is_alone = resources.is_alone(str(resource.get("group") or ""), str(resource.get("resource")))
+        asked = self.request.get("resource")
+        is_alone = isinstance(asked, dict) and resources.is_alone(str(asked.get("group") or ""), str(asked.get("resource")))
         self.outcome, self.message, self.findings = next(deciding.decide([line], [is_alone]))
         (self.folder / "review.json").write_text(line, encoding="utf-8", errors="surrogatepass")
 

@@ -8,7 +8,7 @@ from pathlib import Path
 from typing import Any, Callable, Optional
 
 MEANINGS = {
-    "N2": "the review is not read: it is nested too deep, too large, or converted for a webhook",
+    "N2": "the review is not read: it lacks kind, resource or operation, is nested too deep or too large, or was converted for a webhook",
     "N3": "a number in the params or the namespace is no 64-bit int",
     "N4": "its program takes more steps than are allowed",
     "N5": "its program takes more memory than is allowed",

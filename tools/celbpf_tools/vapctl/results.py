@@ -8,6 +8,8 @@ from .statuses import BAD, GOOD, REFUSED
 ALLOWED, DENIED, UNDECIDED = "allowed", "denied", "undecided"
 # what a binding does with a finding, from the most severe on, and a policy that does not decide
 DENY, WARN, AUDIT, ERROR = "deny", "warn", "audit", "error"
+# the most names that a line lists
+MOST_NAMES = 3
 
 
 @dataclass(frozen=True)
@@ -93,3 +95,8 @@ class Report:
 def plural(count: int, word: str) -> str:
     """A number with a word, which gets an s unless the number is 1."""
     return f"{count:,} {word}{'' if count == 1 else 's'}"
+
+
+def listed(names: list[str]) -> str:
+    """Names, of which the first are listed."""
+    return ", ".join(names[:MOST_NAMES]) + f" and {len(names) - MOST_NAMES:,} more" * (len(names) > MOST_NAMES)

@@ -148,11 +148,13 @@ class Teller:
 def origin(program: Program, policy: dict[Any, Any], place: int) -> str:
     """Where the message of a denial comes from."""
     validation = policy["spec"]["validations"][place]
+    why = "it has no message"
     if validation.get("messageExpression") is not None:
         marked = policies.alone(policy, place, message=MARK)
         if program.response(marked)["status"]["message"] != MARK:
             return "its message expression"
-    return "its message" if validation.get("message") else "its expression, since it has no message"
+        why = "its message expression gives no message"
+    return "its message" if validation.get("message") else f"its expression, since {why}"
 
 
 def tell(program: Program, policy: dict[Any, Any], verdict: list[Any], shows_translation: bool = False) -> Decision:

@@ -7,9 +7,7 @@ from ..manifests.kinds import Resource
 from ..manifests.sending import NAME_LABEL
 from .cluster import BINDING, State, is_of, policy_of, spec_of
 from .inputs import Thing
-
-# the most names that a line lists
-MOST_NAMES = 3
+from .results import listed
 
 
 def constraints_of(thing: Thing) -> dict[str, Any]:
@@ -41,8 +39,7 @@ def told(state: State, asked: set[tuple[Resource, str]]) -> Iterator[str]:
         if policy is None or not asks_labels(thing):
             continue
         found = sorted({namespace for resource, namespace in asked if names(policy, resource) and names(thing, resource)})
-        listed = ", ".join(found[:MOST_NAMES]) + f" and {len(found) - MOST_NAMES} more" * (len(found) > MOST_NAMES)
         has, give = ("has", "its Namespace") if len(found) == 1 else ("have", "their Namespaces")
         if found:
             what = "policy" if thing is policy else "binding"
-            yield f"{what} {thing.name} selects namespaces by labels, and {listed} {has} none here: give {give}"
+            yield f"{what} {thing.name} selects namespaces by labels, and {listed(found)} {has} none here: give {give}"

@@ -20,10 +20,12 @@ from ..saving import Kubectl, Saving, param_kinds
 from ..statuses import GOOD, REFUSED
 
 SECRET = ("v1", "Secret")
+# the namespaces that an API server makes itself
+OWN_NAMESPACES = ("default", "kube-node-lease", "kube-public", "kube-system")
 MORE = """It runs `kubectl` and writes a List of policies, bindings, namespaces, CustomResourceDefinitions and the params that
 bindings can choose. It names what `kubectl` may not read, and then ends with status 3. If policies, bindings or params are
-among that, it writes nothing unless --partial is given. With --from it takes the same of manifests, with the namespace
-`default` if they have none. If params are Secrets, the state is secret: a file is then readable by its owner alone."""
+among that, it writes nothing unless --partial is given. With --from it takes the same of manifests, with the namespaces
+that an API server makes itself, as `default`. If params are Secrets, the state is secret: a file is then readable by its owner alone."""
 
 
 def words(parser: argparse.ArgumentParser) -> None:
@@ -87,8 +89,8 @@ def of_manifests(files: list[str]) -> tuple[list[Thing], list[object], bool]:
         return [], [*inputs.troubles, *why.lines], True
     kinds = set(param_kinds(state.things))
     kept = [thing for thing in state.things if is_needed(thing) or (thing.api_version, thing.kind) in kinds]
-    if not any(map(is_namespace, kept)):
-        kept.append(namespace_named("default", MADE_HERE))
+    known = {thing.name for thing in kept if is_namespace(thing)}
+    kept += [namespace_named(name, MADE_HERE) for name in OWN_NAMESPACES if name not in known]
     return kept, list(inputs.troubles), bool(inputs.troubles)
 
 
