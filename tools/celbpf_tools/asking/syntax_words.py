@@ -14,6 +14,8 @@ CLOSING = {")": "(", "]": "[", "}": "{"}
 # a text literal, or a bracket
 PIECE = re.compile(r"""r?'''.*?'''|r?\"\"\".*?\"\"\"|r'[^']*'|r"[^"]*"|'(?:[^'\\]|\\.)*'|"(?:[^"\\]|\\.)*"|[()\[\]{}]""", re.DOTALL)
 WORD = re.compile(r"[A-Za-z_]\w*")
+# a field of what may be null, as other languages write it
+CHAINED = re.compile(r"[\w\])]\?\.[A-Za-z_]")
 LAST_WORD = re.compile(r"([A-Za-z_]\w*)\s*$")
 
 
@@ -49,6 +51,8 @@ def of_token(text: str, at: int) -> tuple[str, str]:
         return "a name follows `.?`", f"`[?{quote}{here.split(quote)[1]}{quote}]`"
     if here.startswith(">") and before.endswith("<"):
         return "`<>` is no operator here", "`!=`"
+    if here.startswith("?") and before.endswith("?"):
+        return "`??` is no operator here", "`.?` before the field, and `.orValue(..)` after it"
     opened = open_brackets(before)
     if here.startswith(",") and opened and re.search(r"\bin\s*$", before[: opened[-1][1]]):
         return "a list has square brackets", "`in ['a', 'b']`"
@@ -65,6 +69,8 @@ def of_brackets(text: str, at: int, opened: list[tuple[str, int]]) -> tuple[str,
     if not text[at:].strip() and opened:
         mark, place = opened[-1]
         return f"the `{mark}` in column {place + 1} of the text is not closed", ""
+    if not text[at:].strip() and CHAINED.search(text):
+        return "`?.` is no operator here", "`.?`"
     if not text[at:].strip():
         return "the text ends too early", ""
     return "", ""

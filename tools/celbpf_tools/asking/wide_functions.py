@@ -1,5 +1,8 @@
 """Functions and methods that policies as clusters store them may not have, and what to write instead."""
 
+import difflib
+from collections.abc import Iterable
+
 # functions and methods of API servers that are not supported, and what to write instead, if it is known
 LATER = {
     "matches": "startsWith, endsWith or contains for a fixed text, `e in ['a', 'b']` for a choice",
@@ -26,3 +29,26 @@ NOT_THERE = {
     "math.greatest": "`a > b ? a : b`", "math.least": "`a < b ? a : b`", "math.abs": "`a < 0 ? -a : a`",
     "existsOne": "`exists_one`",
 }
+# the macros and functions that there are
+MACROS = ("all", "exists", "exists_one", "filter", "map", "transformList")
+TAKEN = (*MACROS, "size", "startsWith", "endsWith", "contains", "string", "bool", "dyn", "first", "last", "min", "max", "hasValue",
+         "value", "orValue", "optMap", "optFlatMap")
+# what other languages call them
+ELSEWHERE = {
+    "length": "size", "len": "size", "count": "size", "any": "exists", "some": "exists", "every": "all", "includes": "contains",
+    "hasPrefix": "startsWith", "hasSuffix": "endsWith", "select": "filter",
+}
+# how alike words are of which one may be meant by the other
+ALIKE = 0.75
+
+
+def similar(word: str, known: Iterable[str]) -> str:
+    """The word that may be meant by one that is not known: one that begins so, or one that is alike; empty if there is none."""
+    names = list(known)
+    begun = [one for one in names if len(word) > 2 and one.startswith(word)]
+    return next(iter(begun or difflib.get_close_matches(word, names, 1, ALIKE)), "")
+
+
+def meant(name: str) -> str:
+    """The function or macro that may be meant by a name that is none; empty if that is not known."""
+    return ELSEWHERE.get(name) or similar(name, TAKEN)

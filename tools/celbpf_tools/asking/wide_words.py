@@ -4,10 +4,12 @@ import re
 
 from . import syntax_words
 from .refused import MEANINGS
-from .wide_functions import LATER, NOT_THERE
+from .wide_functions import LATER, NOT_THERE, meant, similar
 from .wide_places import OF_OPTIONALS, Found
 from .wide_splitter import NAMESPACES, namespace_of
 
+# the names that an expression begins with
+NAMES = ("object", "oldObject", "params", "namespaceObject", "request", "variables")
 # names of types, which are no values here
 TYPES = ("int", "uint", "double", "string", "bool", "bytes", "null_type", "list", "map", "type")
 # macros of two names whose kin of one name has another
@@ -85,7 +87,7 @@ def function_told(name: str) -> tuple[str, str]:
         return f"`{name}` follows an optional value alone", "`.?` before the field that it follows"
     if name in LATER:
         return f"`{name}` is not supported yet", LATER[name]
-    return f"there is no function `{name}` with these arguments", ""
+    return f"there is no function `{name}` with these arguments", f"`{meant(name)}`" if meant(name) not in ("", name) else ""
 
 
 def leaf_told(name: str, text: str) -> tuple[str, str]:
@@ -98,7 +100,9 @@ def leaf_told(name: str, text: str) -> tuple[str, str]:
         return f"a type, such as `{name}`, is no value here", ""
     if name in NAMESPACES:
         return f"`{name}` is followed by a function", ""
-    return f"`{name}` is no name here", "object, oldObject, params, namespaceObject, request, or `variables.` and a name"
+    near = similar(name, NAMES)
+    known = "object, oldObject, params, namespaceObject, request, or `variables.` and a name"
+    return f"`{name}` is no name here", f"`{near}`" if near else known
 
 
 def form_told(found: Found) -> tuple[str, str]:
@@ -124,12 +128,17 @@ def entry_told(found: Found, _: str) -> tuple[str, str]:
     return "of a map at most three entries have a question mark, with keys that are texts, written out", "`has(e.f) ? {..} : {..}`"
 
 
+def field_told(_: Found, __: str) -> tuple[str, str]:
+    """`has` of what is no field."""
+    return MEANINGS["M3"], "`has(e.f)`, or `k in e` for a key"
+
+
 def depth_told(_: Found, __: str) -> tuple[str, str]:
     """Too many selections, indexes, calls or operators in a row."""
     return MEANINGS["W10"], "variables for parts of it"
 
 
 OF_CAUSES = {
-    "P1": syntax_told, "P4": syntax_told,
+    "P1": syntax_told, "P4": syntax_told, "M3": field_told,
     "W1": bytes_told, "W2": number_told, "W3": map_told, "W4": optional_told, "W5": name_told, "W6": entry_told, "W10": depth_told,
 }

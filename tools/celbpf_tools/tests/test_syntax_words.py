@@ -11,7 +11,8 @@ class Slips(unittest.TestCase):
             ("P1", "a = 1", 2, "`==`"), ("P1", "a === 1", 4, "`==`"), ("P1", "a & b", 2, "`&&`"), ("P1", "a | b", 2, "`||`"), ("P1", "a # b", 2, ""),
             ("P4", "a and b", 2, "`&&`"), ("P4", "a or b", 2, "`||`"), ("P4", "not a", 4, "`!`"), ("P4", "if a then b", 3, "`c ? a : b`"),
             ("P4", "size(a) is 1", 8, "`==`"), ("P4", "a.?'k'.x", 3, "`[?'k']`"), ("P4", "a <> b", 3, "`!=`"),
-            ("P4", "a in ('x', 'y')", 9, "`in ['a', 'b']`"), ("P4", "f(a 'b')", 4, ""), ("P4", "f(a, , b)", 5, ""),
+            ("P4", "a in ('x', 'y')", 9, "`in ['a', 'b']`"), ("P4", "a ?? b", 3, "`.?` before the field, and `.orValue(..)` after it"), ("P4", "a?.b == c", 9, "`.?`"), ("P4", "a ? b", 5, ""),
+            ("P4", "f(a 'b')", 4, ""), ("P4", "f(a, , b)", 5, ""),
         ]:
             with self.subTest(text):
                 self.assertEqual(told(cause, text, at)[1], wanted)

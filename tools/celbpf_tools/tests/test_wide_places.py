@@ -151,7 +151,12 @@ class Words(unittest.TestCase):
              ("`k` may be used only if the range is known to be a map",
               "`m.map(k, ..)` of a map, with `m[k]` for the value, or `l.map(x, ..)` of a list, whose items have no index")),
             ("a.b", "W10", "", ("it is nested more than 512 deep", "variables for parts of it")),
-            ("a", "M3", "", ("has() is asked of what is no field", "")),
+            ("a", "M3", "", ("has() is asked of what is no field", "`has(e.f)`, or `k in e` for a key")),
+            ("a.startWith('x')", "W5", "startWith", ("there is no function `startWith` with these arguments", "`startsWith`")),
+            ("a.length()", "W5", "length", ("there is no function `length` with these arguments", "`size`")),
+            ("size(a, b)", "W5", "size", ("there is no function `size` with these arguments", "")),
+            ("obj", "W5", "obj", ("`obj` is no name here", "`object`")),
+            ("varables", "W5", "varables", ("`varables` is no name here", "`variables`")),
         ]:
             with self.subTest(text):
                 one = Found(cause, 0, len(text), name, cut(text), text=text)
