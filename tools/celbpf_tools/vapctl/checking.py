@@ -10,6 +10,7 @@ from typing import Any, Callable, NoReturn
 from ..asking.program import located_gatekeeper
 from ..entry import Stop
 from ..manifests.kinds import Resources
+from ..manifests.spelling import near
 from . import unlabelled
 from .cluster import NoState, State, is_namespace, namespace_named, of_policies, policy_of, saved, spec_of
 from .deciding import Deciding
@@ -227,7 +228,8 @@ def warn(given: argparse.Namespace, deciding: Deciding) -> None:
     known = {policy.name for policy in deciding.state.policies}
     for binding in deciding.state.bindings:
         if policy_of(binding) not in known:
-            tell(f"binding {binding.name} has no effect: there is no policy {policy_of(binding)}")
+            meant = near(policy_of(binding), known)
+            tell(f"binding {binding.name} has no effect: there is no policy {policy_of(binding)}" + f"; there is {meant}" * bool(meant))
     for name, why in deciding.blocked.items():
         tell(f"policy {name} is not decided: {why}")
     if not all(why.endswith(NO_PARAMS) for why in deciding.blocked.values()):

@@ -167,7 +167,7 @@ def of_policies(things: list[Thing], params: list[Thing]) -> State:
     for policy in state.policies:
         if policy.name not in bound:
             state.made.add(policy.name)
-            state.things.append(binding_of(policy, params_of(policy, state.things)))
+            state.things.append(binding_of(policy, free_name(policy.name, state.bindings), params_of(policy, state.things)))
     state.things = [with_rules(thing) for thing in state.things]
     return state
 
@@ -191,12 +191,18 @@ def is_any(thing: Thing, kinds: list[Any]) -> bool:
     return any(isinstance(kind, dict) and (thing.api_version, thing.kind) == (kind.get("apiVersion"), kind.get("kind")) for kind in kinds)
 
 
-def binding_of(policy: Thing, params: Optional[list[Thing]]) -> Thing:
-    """A binding by which a policy denies, with the params that are given."""
+def free_name(name: str, things: list[Thing]) -> str:
+    """A name that none of these has, which is this one if it is free."""
+    names = {one.name for one in things}
+    return next(one for one in (name, *(f"{name}.{number}" for number in range(len(names) + 1))) if one not in names)
+
+
+def binding_of(policy: Thing, name: str, params: Optional[list[Thing]]) -> Thing:
+    """A binding of this name by which a policy denies, with the params that are given."""
     spec: dict[str, Any] = {"policyName": policy.name, "validationActions": ["Deny"]}
     if params is not None:
         spec["paramRef"] = {"parameterNotFoundAction": "Deny", **reference_to(params)}
-    value = {"apiVersion": VERSION, "kind": BINDING, "metadata": {"name": policy.name}, "spec": spec}
+    value = {"apiVersion": VERSION, "kind": BINDING, "metadata": {"name": name}, "spec": spec}
     return Thing(value, policy.place)
 
 
