@@ -28,8 +28,8 @@ MADE_HERE = Place("(made here)")
 ALL_LEFT_OUT = "the kind of no object is known, so each is left out"
 # how a line on a policy ends that is not refused, but whose params have an unknown kind
 NO_PARAMS = "(C8)"
-# how the message of an expression with an error ends
-ERROR_WORDS = " resulted in error"
+# how the message of an expression with an error ends, and that of a match condition with one
+ERROR_WORDS = (" resulted in error", "match conditions not decided")
 
 
 @dataclass
