@@ -9,6 +9,8 @@ import re
 from collections.abc import Iterator
 from typing import Any
 
+from .vapctl.numbers import key_of
+
 TAG = "tag:yaml.org,2002:"
 # PyYAML takes more texts for numbers and dates than a cluster does: 1:30 is a text there, and so are 2026-11-26 and =
 NOT_RESOLVED = tuple(TAG + kind for kind in ("timestamp", "int", "float", "value"))
@@ -16,6 +18,8 @@ NOT_RESOLVED = tuple(TAG + kind for kind in ("timestamp", "int", "float", "value
 LETTERS = {"y": True, "n": False}
 # the tag of the key `<<`, which may be there twice
 MERGE = f"{TAG}merge"
+# of keys that are no texts
+NO_TEXTS = {MERGE, *(TAG + kind for kind in ("bool", "int", "float", "null"))}
 INT = re.compile(r"[-+]?(?:0|[1-9][0-9_]*|0x[0-9a-fA-F_]+|0o?[0-7_]+|0b[01_]+)$")
 FLOAT = re.compile(r"[-+]?(?:\._*[0-9][0-9_]*|[0-9][0-9_]*(?:\.[0-9_]*)?)(?:[eE][-+]?[0-9]+)?$|[-+]?\.(?:inf|Inf|INF)$|\.(?:nan|NaN|NAN)$")
 # an int of one of these bases is no float, and of more than 64 bits it is a text
@@ -41,14 +45,20 @@ def loader_of(yaml: Any, base: Any) -> Any:
             return bytes(super().construct_yaml_binary(node)).decode(errors="replace")
 
         def flatten_mapping(self, node: Any) -> None:
-            """Puts what `<<` brings in its place."""
-            if not any(key.tag == MERGE for key, _ in node.value):
+            """Puts what `<<` brings in its place, and makes texts of the keys."""
+            if not any(key.tag in NO_TEXTS for key, _ in node.value):
                 return
             found: dict[Any, Any] = {}
             for key, value in node.value:
-                for name, one in self.brought(value) if key.tag == MERGE else [(key, value)]:
+                for name, one in self.brought(value) if key.tag == MERGE else [(self.as_text(key), value)]:
                     found[(name.tag, name.value) if isinstance(name, yaml.ScalarNode) else id(name)] = name, one
             node.value = list(found.values())
+
+        def as_text(self, key: Any) -> Any:
+            """A key as JSON has it: 1 and true are not one key."""
+            if key.tag not in NO_TEXTS:
+                return key
+            return yaml.ScalarNode(f"{TAG}str", key_of(self.construct_object(key)), key.start_mark, key.end_mark)
 
         def brought(self, node: Any) -> Iterator[tuple[Any, Any]]:
             """The entries that `<<` brings of a map, or of a list of maps, of which the first one counts."""
@@ -68,6 +78,8 @@ def loader_of(yaml: Any, base: Any) -> Any:
     Loader.add_implicit_resolver(f"{TAG}float", FLOAT, list("-+0123456789."))
     for kind in ("int", "float", "binary"):
         Loader.add_constructor(TAG + kind, getattr(Loader, f"construct_yaml_{kind}"))
+    for kind in ("omap", "pairs"):
+        Loader.add_constructor(TAG + kind, Loader.construct_yaml_seq)
     # `<<` that is a value
     Loader.add_constructor(MERGE, Loader.construct_yaml_str)
     return Loader

@@ -86,6 +86,11 @@ class Yaml(Files):
         self.assertEqual(documents.one_in(path), {"a": {"x": 1}, "b": {"x": 2, "z": 2}, "c": {"x": 1}, "d": {"x": 1, "z": 2}})
         self.assertEqual(self.refused(self.file("b.yaml", "a: {<<: 5}\n")), "b.yaml: what `<<` brings is no map at line 1 column 9")
 
+    def test_keys_are_texts(self) -> None:
+        path = self.file("a.yaml", "a: &a {yes: a, 1: b, 1.5: c, 0x10: d, 2026-01-01: e, ~: f}\nb: {<<: *a, on: g}\n")
+        keys = {"true": "a", "1": "b", "1.5": "c", "16": "d", "2026-01-01": "e", "null": "f"}
+        self.assertEqual(documents.one_in(path), {"a": keys, "b": {**keys, "true": "g"}})
+
     def test_merges_that_are_repeated_do_not_grow(self) -> None:
         lines = ["a0: &a0 {x: 1}", *(f"a{n}: &a{n} {{<<: [*a{n - 1}, *a{n - 1}]}}" for n in range(1, 60))]
         self.assertEqual(documents.one_in(self.file("a.yaml", "\n".join(lines)))["a59"], {"x": 1})
@@ -97,6 +102,7 @@ class Yaml(Files):
             ("1_0.5", 10.5), (".1_0", 0.1), ("1.5_", 1.5), ("1e400", "1e400"), ("-7e12345", "-7e12345"), ("1.7976931348623157e309",) * 2,
             ("0xFFFFFFFFFFFFFFFFF",) * 2, ("0xFFFFFFFFFFFFFFFF", 2**64 - 1), ("0b102", "0b102"), ("_1", "_1"), ("1e", "1e"), (".", "."),
             ("!!binary aGk=", "hi"), ("<<", "<<"), ("=", "="), ("1:30", "1:30"), ("!!str 12", "12"), ("!!float 3", 3),
+            ("!!omap [b: 1]", [{"b": 1}]),
         ]:
             with self.subTest(text):
                 self.assertEqual(documents.one_in(self.file("a.yaml", f"a: {text}\n")), {"a": value})
