@@ -1,10 +1,10 @@
 -- The specification of a policy as it is read in the wide language, and its failure policy.
-use Rattle.std.proofs.Common.{◌≡◌, ◌∙◌, ℕ, Bool, false, List, [], ◌∷◌, Option, Some, None, ap, option_map, refl, if◌then◌else◌}
+use Rattle.std.proofs.Common.{◌≡◌, ◌∙◌, ℕ, Bool, true, false, List, [], ◌∷◌, Option, Some, None, ap, option_map, refl, if◌then◌else◌}
 use Rattle.std.specs.Prelude.{bytes_eq, codes, is_none}
 use Rattle.serde_json.specs.Data as json
 use Rattle.serde_json.specs.Find.{get, get_member}
 use Rattle.policy_glue.specs.Reading.{spec_keys}
-use Rattle.wide_policy.specs.WideDocuments.{change, is_absent, named_items, normal_document, normal_spec, of_object, of_text, other_members, stable_version, unless_null, unless_nulls, validation_items, with_member}
+use Rattle.wide_policy.specs.WideDocuments.{change, is_absent, is_empty_list, named_items, normal_document, normal_spec, of_object, of_text, other_members, stable_version, unless_empty_list, unless_null, unless_nulls, validation_items, with_member}
 use Rattle.admission_documents.specs.Documents.{present}
 use Rattle.cluster_gate.proofs.Compiled.{changed_apart, changed_here, failure_left, member_kept, null_apart}
 use Rattle.cluster_gate.specs.CompiledDocuments.{changed, others, put_if, without_null, without_nulls}
@@ -42,6 +42,12 @@ same_change key f ms = same_with key (option_map f (get_member key ms)) ms
 change_apart : (key other : List ℕ) (f : json.Data → json.Data) (ms : json.Members) → bytes_eq other key ≡ false → get_member other (change key f ms) ≡ get_member other ms
 change_apart key other f ms apart = ap (get_member other) (same_change key f ms) ∙ changed_apart key other _ ms apart
 
+-- another key than one that is left out
+left_apart : (b : Bool) (key other : List ℕ) (ms : json.Members) → bytes_eq other key ≡ false
+    → get_member other (if b then other_members key ms else ms) ≡ get_member other ms
+left_apart true key other ms apart = ap (get_member other) (same_others key ms) ∙ member_kept key other ms apart
+left_apart false key other ms apart = refl
+
 -- ---- the specification
 
 spec_in_members : (ms : json.Members) → get (codes "spec") (normal_document (json.object ms)) ≡ option_map (of_object normal_spec) (get_member (codes "spec") ms)
@@ -67,14 +73,16 @@ spec_normal (json.object ms) = spec_in_members ms
 failure_in_normal : (ms : json.Members) → get_member (codes "failurePolicy") (normal_spec ms) ≡ present (get_member (codes "failurePolicy") ms)
 failure_in_normal ms =
     let name = codes "failurePolicy" in
-    let left = unless_nulls (codes "auditAnnotations" ∷ spec_keys) ms in
+    let listed = unless_empty_list (codes "auditAnnotations") ms in
+    let left = unless_nulls (codes "auditAnnotations" ∷ spec_keys) listed in
     let first = change (codes "matchConditions") named_items left in
     let second = change (codes "variables") named_items first in
     change_apart (codes "validations") name validation_items second refl
     ∙ change_apart (codes "variables") name named_items first refl
     ∙ change_apart (codes "matchConditions") name named_items left refl
-    ∙ ap (get_member name) (same_nulls (codes "auditAnnotations" ∷ spec_keys) ms)
-    ∙ failure_left ms
+    ∙ ap (get_member name) (same_nulls (codes "auditAnnotations" ∷ spec_keys) listed)
+    ∙ failure_left listed
+    ∙ ap present (left_apart (is_empty_list (get_member (codes "auditAnnotations") ms)) (codes "auditAnnotations") name ms refl)
 
 -- its failure policy is absent if it is null
 pub failure_normal : (d : json.Data) → get (codes "failurePolicy") (of_object normal_spec d) ≡ present (get (codes "failurePolicy") d)

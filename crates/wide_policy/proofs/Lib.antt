@@ -14,3 +14,4 @@ pub mod Wholes
 pub mod Messages
 pub mod NamedParts
 pub mod Once
+pub mod OnLiterals

@@ -1,5 +1,5 @@
 -- Members of objects, and items of arrays.
-use Rattle.std.proofs.Common.{◌≡◌, ◌∙◌, ◌≤◌, ℕ, Bool, true, false, List, [], ◌∷◌, length, map, take, Option, Some, None, Ordering, Less, Equal, Greater, String, Global, ap, cond, option_map, refl, string_bytes, sym, if◌then◌else◌}
+use Rattle.std.proofs.Common.{◌≡◌, ◌∙◌, ◌≤◌, arith, ℕ, Bool, true, false, List, [], ◌∷◌, length, map, take, Option, Some, None, Ordering, Less, Equal, Greater, String, Global, ap, cond, option_map, refl, string_bytes, sym, if◌then◌else◌}
 use Rattle.std.proofs.lemmas.List.{take_all}
 use Rattle.std.proofs.lemmas.Map.Text.{is_eq-slice_cmp}
 use Rattle.std.specs.BTreeMap.{is_at}
@@ -11,7 +11,7 @@ use Rattle.serde_json.specs.Data as json
 use Rattle.serde_json.specs.Find.{get_member}
 use Rattle.serde_json.specs.View.{items_of, items_view, members_view, view}
 use Rattle.serde_json.specs.declared.value.Value.{Value}
-use Rattle.wide_policy.specs.WideDocuments.{each_item, other_members}
+use Rattle.wide_policy.specs.WideDocuments.{each_item, has_no_items, other_members}
 
 -- ---- items
 
@@ -24,6 +24,10 @@ pub all_changed : (f : json.Data → json.Data) (all made items : List Value) (i
     → items_view made ≡ each_item f (items_view items)
 all_changed f all made items i is past same =
     ap items_of (same ∙ ap (map (λ (v : Value). f (view v))) (take_all i all past)) ∙ each_of f all ∙ ap (λ (vs : List Value). each_item f (items_view vs)) is
+
+pub some_items : (vs : List Value) → 1 ≤ length vs → has_no_items (items_view vs) ≡ false
+some_items [] some = absurd (omega arith)
+some_items (v ∷ vs) some = refl
 
 -- ---- members
 

@@ -4,6 +4,7 @@ pub mod Depth
 pub mod WideEvaluation
 pub mod Carrying
 pub mod WideDocuments
+pub mod Rows
 pub mod Errors
 pub mod Taking
 pub mod Returns

@@ -1,5 +1,5 @@
 -- The documents of policies as API servers store them, and the policies in them.
-use Rattle.std.specs.Prelude.{◌≡◌, ℕ, ◌&&◌, ◌||◌, Bool, true, false, not, List, [], ◌∷◌, Option, Some, None, Result, Ok, Err, bytes_eq, codes, option_and_then, option_map, if◌then◌else◌}
+use Rattle.std.specs.Prelude.{◌≡◌, ℕ, ◌&&◌, ◌||◌, Bool, true, false, not, List, [], ◌∷◌, length, nat_eq, Option, Some, None, Result, Ok, Err, bytes_eq, codes, option_and_then, option_map, if◌then◌else◌}
 use Rattle.std.specs.Option.{option_map_or}
 use Rattle.std.specs.Str.{trim}
 use Rattle.serde_json.specs.Data as json
@@ -18,6 +18,22 @@ is_absent None = true
 is_absent (Some json.null) = true
 is_absent (Some _) = false
 
+abbrev pub has_no_items : json.Items → Bool
+has_no_items json.no_items = true
+has_no_items (json.item d ds) = false
+
+-- the field is an empty list, which API servers do not store
+abbrev pub is_empty_list : Option json.Data → Bool
+is_empty_list None = false
+is_empty_list (Some (json.array ds)) = has_no_items ds
+is_empty_list (Some _) = false
+
+-- the field is the empty text, which they do not store either
+abbrev pub is_empty_text : Option json.Data → Bool
+is_empty_text None = false
+is_empty_text (Some (json.string s)) = nat_eq (length s) 0
+is_empty_text (Some _) = false
+
 -- the members with other keys
 abbrev pub other_members : List ℕ → json.Members → json.Members
 other_members key json.no_members = json.no_members
@@ -31,6 +47,14 @@ unless_null key ms = if is_absent (get_member key ms) then other_members key ms 
 abbrev pub unless_nulls : List (List ℕ) → json.Members → json.Members
 unless_nulls [] ms = ms
 unless_nulls (key ∷ keys) ms = unless_nulls keys (unless_null key ms)
+
+-- the members without this key, if its value is an empty list
+abbrev pub unless_empty_list : List ℕ → json.Members → json.Members
+unless_empty_list key ms = if is_empty_list (get_member key ms) then other_members key ms else ms
+
+-- the members without this key, if its value is the empty text
+abbrev pub unless_empty_text : List ℕ → json.Members → json.Members
+unless_empty_text key ms = if is_empty_text (get_member key ms) then other_members key ms else ms
 
 -- the members with this value at the key, if there is one
 abbrev pub with_member : List ℕ → Option json.Data → json.Members → json.Members
@@ -82,11 +106,11 @@ trimmed d = of_text trim d
 abbrev pub named_members : json.Members → json.Members
 named_members ms = change (codes "expression") trimmed (unless_nulls named_keys ms)
 
--- a validation without null fields, its expressions and its message trimmed
+-- a validation without null fields and without an empty message expression, its expressions and its message trimmed
 abbrev pub validation_members : json.Members → json.Members
 validation_members ms =
     change (codes "messageExpression") trimmed (change (codes "message") trimmed (change (codes "expression") trimmed
-    (unless_nulls validation_keys ms)))
+    (unless_empty_text (codes "messageExpression") (unless_nulls validation_keys ms))))
 
 abbrev pub named_items : json.Data → json.Data
 named_items d = of_array (of_object named_members) d
@@ -94,11 +118,13 @@ named_items d = of_array (of_object named_members) d
 abbrev pub validation_items : json.Data → json.Data
 validation_items d = of_array (of_object validation_members) d
 
--- a specification without null fields, and its conditions, variables and validations likewise
+-- a specification without null fields and without an empty list of audit annotations, and its conditions, variables and
+-- validations likewise
 abbrev pub normal_spec : json.Members → json.Members
 normal_spec ms =
     change (codes "validations") validation_items (change (codes "variables") named_items
-    (change (codes "matchConditions") named_items (unless_nulls (codes "auditAnnotations" ∷ spec_keys) ms)))
+    (change (codes "matchConditions") named_items
+    (unless_nulls (codes "auditAnnotations" ∷ spec_keys) (unless_empty_list (codes "auditAnnotations") ms))))
 
 -- an API version whose policies have the fields of v1, as v1
 abbrev pub stable_version : List ℕ → List ℕ
@@ -115,11 +141,15 @@ normal_members ms =
 abbrev pub normal_document : json.Data → json.Data
 normal_document d = of_object normal_members d
 
+-- a list that is missing, null or empty, which is the same in a cluster
+abbrev pub is_absent_list : Option json.Data → Bool
+is_absent_list o = is_absent o || is_empty_list o
+
 -- the document is a policy with audit annotations
 abbrev pub has_audit_annotations : json.Data → Bool
 has_audit_annotations d =
     equals_string (get (codes "kind") d) (codes "ValidatingAdmissionPolicy")
-    && not (is_absent (option_and_then (get (codes "auditAnnotations")) (get (codes "spec") d)))
+    && not (is_absent_list (option_and_then (get (codes "auditAnnotations")) (get (codes "spec") d)))
 
 -- the result of reading a policy, with the errors of this crate
 abbrev pub with_read_error : Result Policy PolicyError → Result Policy WidePolicyError

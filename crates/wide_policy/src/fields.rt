@@ -3,9 +3,9 @@
 ghost use Rattle.std.specs.Prelude.{◌≡◌, map, option_map, IfOk};
 ghost use Rattle.serde_json.specs.Find.{get_member};
 ghost use Rattle.serde_json.specs.View.{members_view, view};
-ghost use Rattle.wide_policy.specs.WideDocuments.{change, other_members, trimmed, unless_null, unless_nulls, with_member};
+ghost use Rattle.wide_policy.specs.WideDocuments.{change, other_members, trimmed, unless_empty_list, unless_empty_text, unless_null, unless_nulls, with_member};
 
-use crate::source::is_absent;
+use crate::source::{is_absent, is_empty_list, is_empty_text};
 use serde_json::{Map, Value, put};
 use std::alloc::{AllocError, Global};
 
@@ -24,6 +24,26 @@ pub(crate) fn unless_null(members: Map<String, Value>, key: &str) -> Map<String,
     ensures { members_view result.entries ≡ unless_null key.now (members_view members.entries) }
 {
     if is_absent(member(&members, key)) {
+        return other_members(members, key);
+    }
+    members
+}
+
+/// The members without this key, if its value is an empty list.
+pub(crate) fn unless_empty_list(members: Map<String, Value>, key: &str) -> Map<String, Value>
+    ensures { members_view result.entries ≡ unless_empty_list key.now (members_view members.entries) }
+{
+    if is_empty_list(member(&members, key)) {
+        return other_members(members, key);
+    }
+    members
+}
+
+/// The members without this key, if its value is the empty text.
+pub(crate) fn unless_empty_text(members: Map<String, Value>, key: &str) -> Map<String, Value>
+    ensures { members_view result.entries ≡ unless_empty_text key.now (members_view members.entries) }
+{
+    if is_empty_text(member(&members, key)) {
         return other_members(members, key);
     }
     members

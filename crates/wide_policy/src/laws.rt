@@ -2,6 +2,7 @@
 
 ghost use Rattle.wide_policy.specs.Carrying.{CarriedPolicyDecides};
 ghost use Rattle.wide_policy.specs.Laws.{HasOneWidePolicy, WidePoliciesAreTaken, WidePoliciesDecide};
+ghost use Rattle.wide_policy.specs.Rows.{WideDocumentRowsHold};
 
 use wide_reader::one_tree;
 use wide_translation::{condition_means_the_same, policy_means_the_same};
@@ -28,3 +29,9 @@ pub fn wide_policies_decide()
     carried_policy_decides();
     one_tree();
 }
+
+/// Documents of policies, and the results of reading them.
+#[tactic(auto, unfolding(crate::proofs::OnLiterals::wide_documents_on_literals))]
+pub fn document_rows_hold()
+    ensures { WideDocumentRowsHold }
+{}

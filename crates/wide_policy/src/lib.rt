@@ -19,7 +19,7 @@ mod validations;
 mod wide_policy_error;
 
 pub use expression_error::WideExpressionError;
-pub use laws::{carried_policy_decides, one_wide_policy, wide_policies_decide};
+pub use laws::{carried_policy_decides, document_rows_hold, one_wide_policy, wide_policies_decide};
 pub use left_out::LeftOut;
 pub use message_rule::MessageRule;
 pub use policy::WidePolicy;

@@ -3,9 +3,12 @@
 ghost use Rattle.std.specs.Prelude.{◌≡◌, ◌∷◌, codes, IfOk};
 ghost use Rattle.serde_json.specs.View.{items_view, members_view, view};
 ghost use Rattle.policy_glue.specs.Reading.{named_keys, spec_keys, validation_keys};
-ghost use Rattle.wide_policy.specs.WideDocuments.{change, each_item, named_items, named_members, normal_document, normal_members, normal_spec, of_object, of_text, stable_version, unless_nulls, validation_items, validation_members};
+ghost use Rattle.wide_policy.specs.WideDocuments.{change, each_item, named_items, named_members, normal_document, normal_members, normal_spec, of_object, of_text, stable_version, unless_empty_text, unless_nulls, validation_items, validation_members};
 
-use crate::fields::{member, other_members, unless_null, unless_nulls, with_member, with_trimmed};
+use crate::fields::{
+    member, other_members, unless_empty_list, unless_empty_text, unless_null, unless_nulls,
+    with_member, with_trimmed,
+};
 use serde_json::{Map, Value};
 use std::alloc::{AllocError, Global};
 
@@ -86,7 +89,7 @@ fn spec_members(
 ) -> Result<Map<String, Value>, AllocError>
     ensures { IfOk result (λ m. members_view m.entries ≡ normal_spec (members_view members.entries)) }
 {
-    let members = without_spec_nulls(members);
+    let members = without_spec_nulls(unless_empty_list(members, "auditAnnotations"));
     let members = with_named(alloc, members, "matchConditions")?;
     let members = with_named(alloc, members, "variables")?;
     let validations = match member(&members, "validations") {
@@ -199,10 +202,17 @@ fn validation_members(
 ) -> Result<Map<String, Value>, AllocError>
     ensures { IfOk result (λ m. members_view m.entries ≡ validation_members (members_view members.entries)) }
 {
-    let members = without_validation_nulls(members);
+    let members = validation_fields(members);
     let members = with_trimmed(alloc, members, "expression")?;
     let members = with_trimmed(alloc, members, "message")?;
     with_trimmed(alloc, members, "messageExpression")
+}
+
+/// The members without null fields and without an empty message expression.
+fn validation_fields(members: Map<String, Value>) -> Map<String, Value>
+    ensures { members_view result.entries ≡ unless_empty_text (codes "messageExpression") (unless_nulls validation_keys (members_view members.entries)) }
+{
+    unless_empty_text(without_validation_nulls(members), "messageExpression")
 }
 
 #[tactic(auto, unfolding(policy_glue::specs::Reading::validation_keys))]

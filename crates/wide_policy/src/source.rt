@@ -3,8 +3,8 @@
 ghost use Rattle.std.specs.Prelude.{◌≡◌, codes, option_and_then, option_map};
 ghost use Rattle.policy_glue.specs.Documents.{equals_string};
 ghost use Rattle.serde_json.specs.Find.{get};
-ghost use Rattle.serde_json.specs.View.{view};
-ghost use Rattle.wide_policy.specs.WideDocuments.{has_audit_annotations, is_absent, ReadsSource, wide_policy_in, wide_policy_of};
+ghost use Rattle.serde_json.specs.View.{items_view, view};
+ghost use Rattle.wide_policy.specs.WideDocuments.{has_audit_annotations, has_no_items, is_absent, is_absent_list, is_empty_list, is_empty_text, ReadsSource, wide_policy_in, wide_policy_of};
 
 use crate::normal::normal_document;
 use crate::wide_policy_error::WidePolicyError;
@@ -38,7 +38,7 @@ fn source_of(alloc: Global, value: Value) -> Result<Policy, WidePolicyError>
 fn has_audit_annotations(value: &Value) -> bool
     ensures { result ≡ has_audit_annotations (view value.now) }
 {
-    is_policy(value.get("kind")) && !is_absent(annotations(value))
+    is_policy(value.get("kind")) && !is_absent_list(annotations(value))
 }
 
 fn is_policy(kind: Option<&Value>) -> bool
@@ -59,6 +59,13 @@ fn annotations(value: &Value) -> Option<&Value>
     }
 }
 
+/// Whether a list is missing, null or empty.
+fn is_absent_list(field: Option<&Value>) -> bool
+    ensures { result ≡ is_absent_list (option_map (λ v. view v.now) field.entry) }
+{
+    is_absent(field) || is_empty_list(field)
+}
+
 /// Whether a field is missing or null.
 pub(crate) fn is_absent(field: Option<&Value>) -> bool
     ensures { result ≡ is_absent (option_map (λ v. view v.now) field.entry) }
@@ -66,5 +73,35 @@ pub(crate) fn is_absent(field: Option<&Value>) -> bool
     match field {
         None | Some(Value::Null) => true,
         Some(_) => false,
+    }
+}
+
+/// Whether a list is empty.
+fn has_no_items(items: &[Value]) -> bool
+    ensures { result ≡ has_no_items (items_view items.now) }
+{
+    match items {
+        [_, ..] => false,
+        [] => true,
+    }
+}
+
+/// Whether a field is an empty list.
+pub(crate) fn is_empty_list(field: Option<&Value>) -> bool
+    ensures { result ≡ is_empty_list (option_map (λ v. view v.now) field.entry) }
+{
+    match field {
+        Some(Value::Array(items)) => has_no_items(items.as_slice()),
+        _ => false,
+    }
+}
+
+/// Whether a field is the empty text.
+pub(crate) fn is_empty_text(field: Option<&Value>) -> bool
+    ensures { result ≡ is_empty_text (option_map (λ v. view v.now) field.entry) }
+{
+    match field {
+        Some(Value::String(text)) => text.as_str().is_empty(),
+        _ => false,
     }
 }

@@ -252,7 +252,7 @@ static void check_wide(void) {
     check(celbpf_gate_new_wide_checked(NULL, optional, sizeof optional - 1, NULL, 0, NULL) == CELBPF_EMPTY, "no place",
           "new wide");
     check_wide_refusal("{}", CELBPF_POLICY_UNREAD, "celbpf: K3\n");
-    check_wide_refusal("{\"auditAnnotations\":[],\"validations\":[]}", CELBPF_POLICY_UNREAD, "celbpf: K3 auditAnnotations\n");
+    check_wide_refusal("{\"auditAnnotations\":[{}],\"validations\":[]}", CELBPF_POLICY_UNREAD, "celbpf: K3 auditAnnotations\n");
     check_wide_refusal("{\"validations\":[{\"expression\":\"true\"},{\"expression\":\"url('a')\"}]}", CELBPF_POLICY_UNCOMPILED,
                        "celbpf: K6 validation 1 W5 url\n");
     check_wide_refusal("{\"validations\":[{\"expression\":\"1\"}]}", CELBPF_POLICY_UNCOMPILED, "celbpf: K7\n");

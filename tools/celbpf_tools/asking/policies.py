@@ -56,6 +56,11 @@ def parts(policy: dict[str, Any]) -> Iterator[Part]:
                 yield Part(kind, place, validation[key], variables)
 
 
+def evaluated(policy: dict[str, Any]) -> list[Part]:
+    """The parts of a policy that is taken: an empty message expression is absent, as in a cluster."""
+    return [part for part in parts(policy) if part.text]
+
+
 def part_of(policy: dict[str, Any], refusal: str) -> Optional[Part]:
     """The part that a refusal of an expression names; none if it is of another kind."""
     words = refusal.split()

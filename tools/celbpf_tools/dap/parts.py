@@ -79,7 +79,7 @@ def names_of(span: Span) -> tuple[str, ...]:
 
 def texts_of(policy: dict[Any, Any]) -> dict[Any, Any]:
     """The texts of the parts of a policy, by their kinds and places."""
-    return {(part.kind, part.place): part.text for part in policies.parts(policy)}
+    return {(part.kind, part.place): part.text for part in policies.evaluated(policy)}
 
 
 def parts_of(policy: dict[Any, Any], listing: str, texts: dict[Any, Any]) -> Parts:

@@ -54,7 +54,7 @@ def items_of(policy: dict[str, Any]) -> tuple[Any, ...]:
     """The items of a policy by their titles, and the questions about them."""
     items: dict[str, Any] = {}
     questions: list[Any] = []
-    for part in policies.parts(policy):
+    for part in policies.evaluated(policy):
         if part.kind == "message":
             items[part.title] = Item(part.title, ("a text", ERROR))
             text = f"dyn(\n{part.text}\n) == dyn(\n{part.text}\n)"

@@ -140,6 +140,10 @@ class Policies(unittest.TestCase):
                     policy_of(**spec)
                 self.assertEqual(why.exception.text, due)
 
+    def test_empty_annotations_and_message_expressions_are_absent(self) -> None:
+        policy = policy_of(auditAnnotations=[], validations=[{"expression": "true", "messageExpression": ""}])
+        self.assertEqual((policy.compiled.messages, policy.values), ([None], []))
+
     def test_texts_are_trimmed_and_nulls_passed_over(self) -> None:
         policy = policies.read({
             **API, "apiVersion": "admissionregistration.k8s.io/v1beta1", "status": {}, "metadata": None,

@@ -87,7 +87,7 @@ class Teller:
         self.program = program
         self.policy = policy
         self.decision = decision
-        self.parts = list(policies.parts(policy))
+        self.parts = policies.evaluated(policy)
         self.translated: dict[Any, Any] = {}
 
     def tell_text(self, part: policies.Part) -> None:
@@ -149,7 +149,7 @@ def origin(program: Program, policy: dict[Any, Any], place: int) -> str:
     """Where the message of a denial comes from."""
     validation = policy["spec"]["validations"][place]
     why = "it has no message"
-    if validation.get("messageExpression") is not None:
+    if validation.get("messageExpression"):
         marked = policies.alone(policy, place, message=MARK)
         if program.response(marked)["status"]["message"] != MARK:
             return "its message expression"

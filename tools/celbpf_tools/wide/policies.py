@@ -38,10 +38,12 @@ def without_nulls(value: Any) -> Any:
 
 
 def entries(spec: dict[str, Any], key: str) -> list[Any]:
-    """The entries of a list, without nulls, and with trimmed texts."""
+    """The entries of a list, without nulls and empty message expressions, and with trimmed texts."""
     made = [without_nulls(one) for one in spec.get(key, [])]
     for one in made:
         if isinstance(one, dict):
+            if one.get("messageExpression") == "":
+                del one["messageExpression"]
             one.update({name: one[name].strip(BLANKS) for name in TEXTS if isinstance(one.get(name), str)})
     return made
 
