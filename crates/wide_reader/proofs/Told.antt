@@ -4,7 +4,8 @@ use Rattle.std.proofs.lemmas.List.{append-nil, take_all}
 use Rattle.wide_tokens.specs.Lexis.{WideTokensReturns}
 use Rattle.wide_reader.specs.declared.refusal.Refusal.TheVariants as refusal
 use Rattle.wide_reader.specs.declared.wide_error.WideReadError.TheVariants as errors
-use Rattle.wide_reader.specs.Faults.{verdict}
+use Rattle.wide_reader.specs.Answers.{tested, unless_fault}
+use Rattle.wide_reader.specs.Faults.{fault}
 use Rattle.wide_reader.specs.declared.wide_error.MacroFault.{MacroFault}
 use Rattle.wide_reader.specs.Place.{unsupported_in, first_error, wide_refused_at}
 use Rattle.wide_reader.proofs.Steps.{words_length}
@@ -132,13 +133,16 @@ pub told_formed : (source text : List ℕ) (tokens now : List CodeToken) (e : Co
     → FormsWide source (view e)
 told_formed source text tokens now a e f l t = (map (token_view source) tokens, l, whole_at source text tokens now (Ok a) e f t)
 
-pub no_fault : (o : Option MacroFault) → Ok tt ≡ verdict o → o ≡ None
-no_fault None e = refl
-no_fault (Some f) e = absurd cc
+-- an expression that was read is tested for faults
+faultless : (source : List ℕ) (e : CodeWide) (o : Option MacroFault) → fault (view e) ≡ o → FormsWide source (view e) → WideReadReturns source (unless_fault e o)
+faultless source e None is f = (f, is)
+faultless source e (Some x) is f = (view e, f, is)
 
-pub a_fault : (o : Option MacroFault) (f : MacroFault) → Err f ≡ verdict o → o ≡ Some f
-a_fault None f e = absurd cc
-a_fault (Some g) f e = cc
+pub told_tested : (source text : List ℕ) (tokens now : List CodeToken) (r : Result CodeWide WideReadError) → text ≡ source → now ≡ tokens
+    → WideLexes source (Ok (map (token_view source) tokens)) → WideParseReturns (length text) (map (token_view text) now) r
+    → WideReadReturns source (tested r)
+told_tested source text tokens now (Ok a) e f l t = faultless source a (fault (view a)) refl (told_formed source text tokens now a e f l t)
+told_tested source text tokens now (Err x) e f l t = told_error source text tokens now x e f l t
 
 -- a text has one list of tokens
 pub one_list : (source : List ℕ) (xs ys : List WideToken) → WideLexes source (Ok xs) → WideLexes source (Ok ys) → xs ≡ ys

@@ -1,5 +1,5 @@
 -- Results of the reader.
-use Rattle.std.specs.Prelude.{◌≡◌, ◌≢◌, ℕ, suc, ◌<◌, ◌≤◌, List, [], ◌∷◌, ◌++◌, length, take, drop, true, false, None, Some, Result, Ok, Err}
+use Rattle.std.specs.Prelude.{◌≡◌, ◌≢◌, ℕ, suc, ◌<◌, ◌≤◌, List, [], ◌∷◌, ◌++◌, length, take, drop, true, false, Option, None, Some, Result, Ok, Err}
 use Rattle.cel_tokens.specs.Limits.{text_limit}
 use Rattle.cel_tokens.specs.declared.read_error.ReadError.TheVariants.{UnexpectedToken, TooManyOpen, Memory}
 use Rattle.wide_tokens.specs.Token.{WideWord, WideToken, bytes, double}
@@ -11,6 +11,7 @@ use Rattle.wide_reader.specs.Grammar.{Expression, One, WideDerives}
 use Rattle.wide_reader.specs.Look.{words_only, opens}
 use Rattle.wide_reader.specs.Faults.{fault}
 use Rattle.wide_reader.specs.declared.wide.Wide.{Wide as CodeWide}
+use Rattle.wide_reader.specs.declared.wide_error.MacroFault.{MacroFault}
 use Rattle.wide_reader.specs.declared.wide_error.WideReadError.{WideReadError, TheVariants.Text, TheVariants.Bytes, TheVariants.Double, TheVariants.Macro}
 
 -- none of the words is bytes or a double
@@ -85,6 +86,16 @@ FormsWide source w = InTokens source (λ lexemes. AreSupported (words_only lexem
 -- the text is this expression: its tokens form it, and no macro in it is invalid
 abbrev pub IsWide : List ℕ → Wide → Type 0
 IsWide source w = FormsWide source w × (fault w ≡ None)
+
+-- the expression, unless a macro in it is invalid
+abbrev pub unless_fault : CodeWide → Option MacroFault → Result CodeWide WideReadError
+unless_fault e None = Ok e
+unless_fault e (Some f) = Err (Macro f)
+
+-- the expression that was read, unless a macro in it is invalid
+abbrev pub tested : Result CodeWide WideReadError → Result CodeWide WideReadError
+tested (Ok e) = unless_fault e (fault (view e))
+tested (Err x) = Err x
 
 -- What each result means for the text. An allocation can fail only for a text that is not refused before anything is
 -- allocated.

@@ -1,5 +1,5 @@
 -- The first invalid macro: a node before its parts, parts from left to right.
-use Rattle.std.specs.Prelude.{ℕ, List, Option, Some, None, Result, Ok, Err, if◌then◌else◌}
+use Rattle.std.specs.Prelude.{ℕ, List, Option, Some, None, if◌then◌else◌}
 use Rattle.std.specs.Option.{option_or}
 use Rattle.wide_reader.specs.Tree as tree
 use Rattle.wide_reader.specs.Tree.{Wide, Wides, WideItems, WideEntries, no_wides, more_wides, no_items, more_items, no_entries, more_entries}
@@ -55,8 +55,3 @@ unfoldable mutual
   pub entries_fault : WideEntries → Option MacroFault
   entries_fault no_entries = None
   entries_fault (more_entries o k v more) = option_or (fault k) (option_or (fault v) (entries_fault more))
-
--- the result of the test for faults
-abbrev pub verdict : Option MacroFault → Result (Unit {0}) MacroFault
-verdict None = Ok tt
-verdict (Some f) = Err f

@@ -6,7 +6,7 @@ ghost use Rattle.wide_reader.specs.Look as specs;
 use cel_tokens::Mark;
 
 /// The list that a closing bracket ends.
-#[derive(Clone, Copy, Debug, PartialEq, Eq)]
+#[derive(Clone, Copy)]
 pub enum Closing {
     /// Arguments, ended by `)`.
     Call,

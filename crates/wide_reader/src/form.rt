@@ -6,7 +6,7 @@ ghost use Rattle.wide_reader.specs.Forms as forms;
 use crate::wide::{Macro, OptionalMacro, PairMacro};
 
 /// What a method is resolved to.
-#[derive(Clone, Copy, Debug, PartialEq, Eq)]
+#[derive(Clone, Copy)]
 pub enum Form {
     /// One iteration name, and a predicate or transform.
     Fold(Macro),

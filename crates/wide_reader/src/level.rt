@@ -1,7 +1,7 @@
 //! The precedence of binary operators.
 
 /// The levels of binary operators, from the loosest to the tightest.
-#[derive(Clone, Copy, Debug, PartialEq, Eq)]
+#[derive(Clone, Copy, PartialEq, Eq)]
 pub enum Level {
     Or,
     And,

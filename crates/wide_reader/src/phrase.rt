@@ -35,9 +35,15 @@ pub fn up_to<'a>(text: &'a [u8], mark: Mark, read: Read<'a>) -> Read<'a>
     match read {
         Ok((tree, end)) => match after(text, end, mark) {
             Some(rest) => Ok((tree, rest)),
-            None => Err(misfit(end)),
+            None => {
+                drop(tree);
+                Err(misfit(end))
+            }
         },
-        Err(refusal) => Err(refusal),
+        Err(refusal) => {
+            drop(read);
+            Err(refusal)
+        }
     }
 }
 

@@ -7,7 +7,7 @@ use std::alloc::{AllocError, AllocFailed};
 use wide_tokens::Token;
 
 /// Why the tokens are not an expression, with the number of tokens left at the error.
-#[derive(Clone, Copy, Debug, PartialEq, Eq)]
+#[derive(Clone, Copy)]
 pub enum Refusal {
     /// The first token left does not fit; or none is left and the expression is incomplete.
     Misfit(usize),

@@ -5,10 +5,12 @@ ghost use Rattle.cel_tokens.specs.declared.read_error.ReadError.TheVariants.{Tex
 ghost use Rattle.cel_tokens.specs.Limits.{text_limit};
 ghost use Rattle.wide_tokens.specs.Token.{token_view};
 ghost use Rattle.wide_reader.specs.Place.{unsupported_in, wide_refused_at};
-ghost use Rattle.wide_reader.specs.Answers.{WideReadReturns, WideParseReturns};
+ghost use Rattle.wide_reader.specs.Answers.{WideReadReturns, WideParseReturns, tested, unless_fault};
+ghost use Rattle.wide_reader.specs.Faults.{fault};
+ghost use Rattle.wide_reader.specs.Tree.{view};
 ghost use Rattle.wide_reader.specs.declared.wide_error.WideReadError.TheVariants.{Text};
 
-use crate::faults::test;
+use crate::faults::fault;
 use crate::limits::OPEN_LIMIT;
 use crate::place::placed;
 use crate::reader::expression;
@@ -56,15 +58,48 @@ fn whole(alloc: Global, text: &[u8], tokens: &[Token]) -> Result<Wide, WideReadE
     let Some(_) = first(text, tokens) else {
         return Err(refused(text, tokens, misfit(tokens)));
     };
-    match expression(alloc, text, tokens, OPEN_LIMIT) {
+    let read = expression(alloc, text, tokens, OPEN_LIMIT);
+    match read {
         Ok((tree, rest)) => match first(text, rest) {
             None => match unsupported(tokens) {
                 None => Ok(tree),
-                Some(error) => Err(error),
+                Some(error) => {
+                    drop(tree);
+                    Err(error)
+                }
             },
-            Some(_) => Err(refused(text, tokens, misfit(rest))),
+            Some(_) => {
+                drop(tree);
+                Err(refused(text, tokens, misfit(rest)))
+            }
         },
-        Err(refusal) => Err(refused(text, tokens, refusal)),
+        Err(refusal) => {
+            drop(read);
+            Err(refused(text, tokens, refusal))
+        }
+    }
+}
+
+/// The expression, unless a macro in it is invalid.
+fn unless_fault(tree: Wide) -> Result<Wide, WideReadError>
+    ensures { result ≡ unless_fault tree (fault (view tree)) }
+{
+    match fault(&tree) {
+        None => Ok(tree),
+        Some(found) => {
+            drop(tree);
+            Err(WideReadError::Macro(found))
+        }
+    }
+}
+
+/// The expression that was read, unless a macro in it is invalid.
+fn tested(read: Result<Wide, WideReadError>) -> Result<Wide, WideReadError>
+    ensures { result ≡ tested read }
+{
+    match read {
+        Ok(tree) => unless_fault(tree),
+        Err(error) => Err(error),
     }
 }
 
@@ -78,9 +113,7 @@ pub fn read(alloc: Global, text: &str) -> Result<Wide, WideReadError>
     ensures long { text_limit < length text.now → result ≡ Err (Text (TextTooLong text_limit)) }
 {
     let tokens = tokens(alloc, text)?;
-    let tree = whole(alloc, text.as_bytes(), &tokens)?;
-    match test(&tree) {
-        Ok(()) => Ok(tree),
-        Err(fault) => Err(WideReadError::Macro(fault)),
-    }
+    let read = whole(alloc, text.as_bytes(), &tokens);
+    drop(tokens);
+    tested(read)
 }

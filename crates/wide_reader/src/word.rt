@@ -9,7 +9,7 @@ use cel_tokens::{Mark, mark_of};
 use wide_tokens::{Kind, Token};
 
 /// The word of a token: its kind, and its bytes or its value.
-#[derive(Clone, Copy, Debug)]
+#[derive(Clone, Copy)]
 pub enum Word<'a> {
     Name(&'a [u8]),
     /// A name in back quotes, without the quotes.
