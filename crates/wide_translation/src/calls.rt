@@ -159,6 +159,7 @@ pub(crate) fn tested(
     ensures { ReturnsCarried (specs.on_plain (carried_view argument) (λ j b. taken (specs.test_carried test (view of) b))) result }
 {
     let Some((_, second)) = value_of(argument) else {
+        drop(of);
         return Err(TranslationError::OptionalValue);
     };
     let name = match test {
@@ -223,7 +224,11 @@ fn or_plain(
     ensures { ReturnsCarried (specs.or_value_carried (carried_view of) other (view default)) result }
 {
     match of {
-        Carried::Plain(_, _) => Err(unknown(alloc, "orValue")),
+        Carried::Plain(_, tree) => {
+            drop(tree);
+            drop(default);
+            Err(unknown(alloc, "orValue"))
+        }
         Carried::Guarded(kind, guard, value) => {
             let chosen = build::ternary(alloc, guard, value, default)?;
             Ok(Carried::Plain(joined_kind(kind, other), chosen))
@@ -244,6 +249,7 @@ pub(crate) fn or_value(
     ensures { ReturnsCarried (specs.on_plain (carried_view other) (specs.or_value_carried (carried_view of))) result }
 {
     let Some((kind, default)) = value_of(other) else {
+        drop(of);
         return Err(TranslationError::OptionalValue);
     };
     or_plain(alloc, of, kind, default)
@@ -294,6 +300,8 @@ fn guarded_or(
     ensures { ReturnsCarried (specs.from_list OptionalValue (carried_view other) (λ j m. taken (listed (kinds.joined_kind kind j) (node.ternary (view guard) (forms.one_tree (view value)) m)))) result }
 {
     let Some((next, second)) = list_of(other) else {
+        drop(guard);
+        drop(value);
         return Err(TranslationError::OptionalValue);
     };
     let chosen = guarded_list_or(alloc, guard, value, second)?;
@@ -310,6 +318,7 @@ fn listed_or(
     ensures { ReturnsCarried (specs.from_list OptionalValue (carried_view other) (λ j m. taken (listed (kinds.joined_kind kind j) (forms.let_tree names.held_name (view list) (held_or_list_tree m))))) result }
 {
     let Some((next, second)) = list_of(other) else {
+        drop(list);
         return Err(TranslationError::OptionalValue);
     };
     let chosen = list_or(alloc, list, second)?;
@@ -320,9 +329,19 @@ fn listed_or(
 pub(crate) fn or(alloc: Global, of: Carried, other: Carried) -> Result<Carried, TranslationError>
     ensures { ReturnsCarried (specs.or_carried (carried_view of) (carried_view other)) result }
 {
-    let list = as_list(alloc, other)?;
+    let list = match as_list(alloc, other) {
+        Ok(list) => list,
+        Err(failed) => {
+            drop(of);
+            return Err(failed.into());
+        }
+    };
     match of {
-        Carried::Plain(_, _) => Err(unknown(alloc, "or")),
+        Carried::Plain(_, tree) => {
+            drop(tree);
+            drop(list);
+            Err(unknown(alloc, "or"))
+        }
         Carried::Guarded(kind, guard, value) => guarded_or(alloc, kind, guard, value, list),
         Carried::Listed(kind, first) => listed_or(alloc, kind, first, list),
     }
@@ -333,8 +352,14 @@ fn has_value(alloc: Global, of: Carried) -> Result<Carried, TranslationError>
     ensures { ReturnsCarried (specs.has_value_translation (carried_view of)) result }
 {
     match of {
-        Carried::Plain(_, _) => Err(unknown(alloc, "hasValue")),
-        Carried::Guarded(_, guard, _) => Ok(Carried::Plain(ValueKind::Bool, guard)),
+        Carried::Plain(_, tree) => {
+            drop(tree);
+            Err(unknown(alloc, "hasValue"))
+        }
+        Carried::Guarded(_, guard, value) => {
+            drop(value);
+            Ok(Carried::Plain(ValueKind::Bool, guard))
+        }
         Carried::Listed(_, list) => {
             let tree = build::binary(alloc, BinaryOperator::NotEqual, list, build::empty(alloc))?;
             Ok(Carried::Plain(ValueKind::Bool, tree))
@@ -365,6 +390,9 @@ pub(crate) fn method(alloc: Global, found: Method, of: Carried) -> Result<Carrie
         Method::Last => list_functions::last(alloc, of),
         Method::Min => list_functions::extreme(alloc, BinaryOperator::LessEqual, of),
         Method::Max => list_functions::extreme(alloc, BinaryOperator::GreaterEqual, of),
-        _ => Err(unknown_method(alloc, found)),
+        _ => {
+            drop(of);
+            Err(unknown_method(alloc, found))
+        }
     }
 }

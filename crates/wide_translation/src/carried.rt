@@ -27,8 +27,15 @@ pub(crate) fn value_of(of: Carried) -> Option<(ValueKind, Expr)>
 {
     match of {
         Carried::Plain(kind, tree) => Some((kind, tree)),
-        Carried::Guarded(_, _, _) => None,
-        Carried::Listed(_, _) => None,
+        Carried::Guarded(_, guard, value) => {
+            drop(guard);
+            drop(value);
+            None
+        }
+        Carried::Listed(_, list) => {
+            drop(list);
+            None
+        }
     }
 }
 
@@ -37,8 +44,15 @@ pub(crate) fn list_of(of: Carried) -> Option<(ValueKind, Expr)>
     ensures { MatchOption result ((e : specs.WideFault) (f : KindOf → Tree → specs.Translation) → from_list e (carried_view of) f ≡ specs.refused e) (λ p. carried_view of ≡ specs.listed p.0 (view p.1)) }
 {
     match of {
-        Carried::Plain(_, _) => None,
-        Carried::Guarded(_, _, _) => None,
+        Carried::Plain(_, tree) => {
+            drop(tree);
+            None
+        }
+        Carried::Guarded(_, guard, value) => {
+            drop(guard);
+            drop(value);
+            None
+        }
         Carried::Listed(kind, list) => Some((kind, list)),
     }
 }

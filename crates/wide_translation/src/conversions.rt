@@ -176,7 +176,9 @@ fn held_text_bool(alloc: Global) -> Built
     ensures { IfOk result (λ e. view e ≡ forms.text_bool_tree forms.held) }
 {
     let held = build::held(alloc)?;
-    text_bool(alloc, &held)
+    let denoted = text_bool(alloc, &held);
+    drop(held);
+    denoted
 }
 
 /// The bool that a text denotes, with the text written once.
@@ -184,7 +186,9 @@ fn once_text_bool(alloc: Global, of: Expr) -> Built
     ensures { IfOk result (λ e. view e ≡ specs.once (view of) forms.text_bool_tree) }
 {
     if build::is_simple(&of) {
-        return text_bool(alloc, &of);
+        let denoted = text_bool(alloc, &of);
+        drop(of);
+        return denoted;
     }
     built::bound(alloc, Ok(of), held_text_bool(alloc))
 }
@@ -194,7 +198,9 @@ fn held_bool(alloc: Global) -> Built
     ensures { IfOk result (λ e. view e ≡ forms.bool_tree forms.held) }
 {
     let held = build::held(alloc)?;
-    any_bool(alloc, &held)
+    let denoted = any_bool(alloc, &held);
+    drop(held);
+    denoted
 }
 
 /// The bool that a value of any kind denotes, with the value written once.
@@ -202,7 +208,9 @@ fn once_any_bool(alloc: Global, of: Expr) -> Built
     ensures { IfOk result (λ e. view e ≡ specs.once (view of) forms.bool_tree) }
 {
     if build::is_simple(&of) {
-        return any_bool(alloc, &of);
+        let denoted = any_bool(alloc, &of);
+        drop(of);
+        return denoted;
     }
     built::bound(alloc, Ok(of), held_bool(alloc))
 }

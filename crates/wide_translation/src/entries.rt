@@ -59,7 +59,11 @@ fn of_text(alloc: Global, field: String, value: Carried) -> Result<EntryPart, Tr
     ensures { ReturnsEntryPart (specs.optional_more (string_bytes field) (carried_view value)) result }
 {
     match value {
-        Carried::Plain(_, _) => Err(TranslationError::OptionalValue),
+        Carried::Plain(_, item) => {
+            drop(item);
+            drop(field);
+            Err(TranslationError::OptionalValue)
+        }
         Carried::Guarded(_, guard, item) => Ok(EntryPart::Optional(field, guard, item)),
         Carried::Listed(_, of) => of_list(alloc, field, of),
     }

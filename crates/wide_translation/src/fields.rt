@@ -105,7 +105,10 @@ pub(crate) fn has_value(alloc: Global, of: Carried) -> Built
 {
     match of {
         Carried::Plain(_, tree) => Ok(tree),
-        Carried::Guarded(_, guard, _) => Ok(guard),
+        Carried::Guarded(_, guard, value) => {
+            drop(value);
+            Ok(guard)
+        }
         Carried::Listed(_, list) => {
             build::binary(alloc, BinaryOperator::NotEqual, list, build::empty(alloc))
         }
@@ -117,7 +120,9 @@ fn held_has(alloc: Global, field: &str) -> Built
     ensures { IfOk result (λ e. view e ≡ forms.present_tree forms.held field.now) }
 {
     let held = build::held(alloc)?;
-    presence::present(alloc, &held, field)
+    let test = presence::present(alloc, &held, field);
+    drop(held);
+    test
 }
 
 /// Whether a value has a field.
@@ -125,7 +130,9 @@ fn has_plain(alloc: Global, kind: ValueKind, of: Expr, field: &str) -> Built
     ensures { IfOk result (λ e. view e ≡ specs.has_carried field.now (plain kind (view of))) }
 {
     if build::is_simple(&of) {
-        return presence::present_of(alloc, kind, &of, field);
+        let test = presence::present_of(alloc, kind, &of, field);
+        drop(of);
+        return test;
     }
     built::bound(alloc, Ok(of), held_has(alloc, field))
 }

@@ -80,20 +80,20 @@ impl ListParts {
         ensures refused { IfErr result (λ e. is_memory e ≡ false → (ps : Parts) → one_more access (taken (carried_view item)) ps ≡ no_parts (fault_of e)) }
     {
         match access {
-            Access::Plain => {
-                let Carried::Plain(_, tree) = item else {
-                    return Err(TranslationError::OptionalValue);
-                };
-                self.add_value(tree)?;
-                Ok(())
-            }
-            Access::Optional => {
-                let Carried::Listed(_, list) = as_list(alloc, item)? else {
-                    return Err(TranslationError::OptionalValue);
-                };
-                self.add_list(alloc, list)?;
-                Ok(())
-            }
+            Access::Plain => match item {
+                Carried::Plain(_, tree) => Ok(self.add_value(tree)?),
+                other => {
+                    drop(other);
+                    Err(TranslationError::OptionalValue)
+                }
+            },
+            Access::Optional => match as_list(alloc, item)? {
+                Carried::Listed(_, list) => Ok(self.add_list(alloc, list)?),
+                other => {
+                    drop(other);
+                    Err(TranslationError::OptionalValue)
+                }
+            },
         }
     }
 

@@ -97,7 +97,11 @@ fn list_equality(
     ensures { ReturnsCarried (specs.on_list OptionalValue (carried_view right) (λ k m. taken (plain kind.Bool (node.binary operator (view left) m)))) result }
 {
     match right {
-        Carried::Plain(_, _) => Err(TranslationError::OptionalValue),
+        Carried::Plain(_, tree) => {
+            drop(tree);
+            drop(left);
+            Err(TranslationError::OptionalValue)
+        }
         Carried::Guarded(_, guard, value) => {
             Ok(compared_guarded(alloc, operator, left, (guard, value))?)
         }
@@ -114,8 +118,13 @@ fn guarded_equality(
 ) -> Result<Carried, TranslationError>
     ensures { ReturnsCarried (specs.on_list OptionalValue (carried_view right) (λ k m. taken (plain kind.Bool (node.binary operator (forms.guarded_tree (view left.0) (view left.1)) m)))) result }
 {
-    let first = build::guarded(alloc, left.0, left.1)?;
-    list_equality(alloc, operator, first, right)
+    match build::guarded(alloc, left.0, left.1) {
+        Ok(first) => list_equality(alloc, operator, first, right),
+        Err(failed) => {
+            drop(right);
+            Err(failed.into())
+        }
+    }
 }
 
 /// Equality of two values, or of two optional values.
@@ -130,6 +139,7 @@ fn equality(
     match left {
         Carried::Plain(_, first) => {
             let Some((_, second)) = value_of(right) else {
+                drop(first);
                 return Err(TranslationError::OptionalValue);
             };
             Ok(compared(alloc, operator, first, second)?)
@@ -152,6 +162,8 @@ fn on_values(
     ensures { IfOk result (λ c. specs.plain_binary is_empty operator left.0 right.0 (view left.1) (view right.1) ≡ taken (carried_view c)) }
 {
     if is_empty && operator == BinaryOperator::In {
+        drop(left);
+        drop(right);
         return Ok(Carried::Plain(ValueKind::Bool, Expr::Literal(Literal::Bool(false))));
     }
     let kind = binary_kind(operator, left.0, right.0);
@@ -173,6 +185,7 @@ fn on_operands(
         return Err(TranslationError::OptionalValue);
     };
     let Some(second) = value_of(right) else {
+        drop(first);
         return Err(TranslationError::OptionalValue);
     };
     Ok(on_values(alloc, is_empty, operator, first, second)?)
@@ -213,7 +226,12 @@ fn list_ternary(
 {
     let (kind, first) = yes;
     match no {
-        Carried::Plain(_, _) => Err(TranslationError::OptionalValue),
+        Carried::Plain(_, tree) => {
+            drop(tree);
+            drop(condition);
+            drop(first);
+            Err(TranslationError::OptionalValue)
+        }
         Carried::Guarded(other, guard, value) => {
             let second = build::guarded(alloc, guard, value);
             let tree = built::ternary(alloc, Ok(condition), Ok(first), second)?;
@@ -236,8 +254,14 @@ fn guarded_ternary(
     ensures { ReturnsCarried (specs.on_list OptionalValue (carried_view no) (λ j m. taken (listed (kinds.joined_kind yes.0 j) (node.ternary (view condition) (forms.guarded_tree (view yes.1) (view yes.2)) m)))) result }
 {
     let (kind, guard, value) = yes;
-    let first = build::guarded(alloc, guard, value)?;
-    list_ternary(alloc, condition, (kind, first), no)
+    match build::guarded(alloc, guard, value) {
+        Ok(first) => list_ternary(alloc, condition, (kind, first), no),
+        Err(failed) => {
+            drop(condition);
+            drop(no);
+            Err(failed.into())
+        }
+    }
 }
 
 /// A conditional. Its branches are both values or both optional values.
@@ -252,6 +276,8 @@ pub(crate) fn ternary(
     match yes {
         Carried::Plain(kind, first) => {
             let Some((other, second)) = value_of(no) else {
+                drop(condition);
+                drop(first);
                 return Err(TranslationError::OptionalValue);
             };
             let tree = build::ternary(alloc, condition, first, second)?;

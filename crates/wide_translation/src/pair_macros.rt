@@ -51,6 +51,7 @@ pub(crate) fn fold(
     ensures { ReturnsCarried (parts.on_plain (carried_view part) (λ j c. taken (plain (specs.pair_kind found) (forms.macro_tree (specs.one_name found) (string_bytes over.binder) (view over.range) c)))) result }
 {
     let Some((_, body)) = value_of(part) else {
+        drop(over);
         return Err(TranslationError::OptionalValue);
     };
     let PairRange { binder, range } = over;

@@ -160,7 +160,9 @@ fn held_range(alloc: Global, used: PairUse, is_map: bool) -> Built
     ensures { IfOk result (λ e. view e ≡ repeated_range_tree (use_view used) is_map forms.held) }
 {
     let held = build::held(alloc)?;
-    repeated_range(alloc, used, is_map, &held)
+    let range = repeated_range(alloc, used, is_map, &held);
+    drop(held);
+    range
 }
 
 /// The range of a macro for a map, or for a list or a map. A map gives its keys by itself.
@@ -171,7 +173,9 @@ fn written_range(alloc: Global, used: PairUse, is_map: bool, of: Expr) -> Result
         return Ok(of);
     }
     if build::is_simple(&of) {
-        return repeated_range(alloc, used, is_map, &of);
+        let range = repeated_range(alloc, used, is_map, &of);
+        drop(of);
+        return range;
     }
     built::bound(alloc, Ok(of), held_range(alloc, used, is_map))
 }

@@ -54,6 +54,7 @@ pub(crate) fn fold(
     ensures { ReturnsCarried (specs.on_plain (carried_view part) (λ j b. taken (specs.fold_carried found item.now (view range) b))) result }
 {
     let Some((_, body)) = value_of(part) else {
+        drop(range);
         return Err(TranslationError::OptionalValue);
     };
     let tree = build::fold(alloc, plain_macro(found), item, range, body)?;
@@ -71,6 +72,8 @@ pub(crate) fn filter_map(
     ensures { ReturnsCarried (specs.on_plain (carried_view transform) (λ i c. taken (plain kind.List (forms.filter_map_tree item.now (view range) (view predicate) c)))) result }
 {
     let Some((_, body)) = value_of(transform) else {
+        drop(range);
+        drop(predicate);
         return Err(TranslationError::OptionalValue);
     };
     let tree = build::filter_map(alloc, item, range, predicate, body)?;
@@ -87,6 +90,7 @@ fn optional_map(
     ensures { ReturnsCarried (specs.optional_carried optional.Map item.now (view list) (carried_view part)) result }
 {
     let Some((kind, body)) = value_of(part) else {
+        drop(list);
         return Err(TranslationError::OptionalValue);
     };
     let mapped = build::fold(alloc, PlainMacro::Map, item, list, body)?;
@@ -102,8 +106,15 @@ fn optional_flat_map(
 ) -> Result<Carried, TranslationError>
     ensures { ReturnsCarried (specs.optional_carried optional.FlatMap item.now (view list) (carried_view part)) result }
 {
-    let inner = as_list(alloc, part)?;
+    let inner = match as_list(alloc, part) {
+        Ok(inner) => inner,
+        Err(failed) => {
+            drop(list);
+            return Err(failed.into());
+        }
+    };
     let Some((kind, body)) = list_of(inner) else {
+        drop(list);
         return Err(TranslationError::OptionalValue);
     };
     let mapped = build::flat(alloc, item, list, body)?;
