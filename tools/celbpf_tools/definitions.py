@@ -32,6 +32,7 @@ class Module:
         self.definitions: dict[str, Definition] = {}
         self.names: dict[str, Any] = {}
         self.modules: dict[str, Any] = {}
+        self.passed: dict[str, str] = {}
         self.owners: dict[str, Any] = {}
         for place, line, has_sentence, head in headed(path.read_text().splitlines(), self.take):
             if head:
@@ -47,6 +48,13 @@ class Module:
             self.give(name.split(" as ")[-1], use[1], name.split(" as ")[0])
         if use[3] and not use[2]:
             self.modules[use[3]] = use[1]
+        elif not use[2]:
+            self.passed[self.name.removesuffix("Lib") + use[1].split(".")[-1]] = use[1]
+
+    def follow(self, passed: dict[str, str]) -> None:
+        """Takes what is imported from a file that a crate passes on from the crate that has it."""
+        self.names = {word: (passed.get(at, at), name) for word, (at, name) in self.names.items()}
+        self.modules = {word: passed.get(at, at) for word, at in self.modules.items()}
 
     def give(self, word: str, module: str, name: str) -> None:
         """What a word means, and of an operator also its sign alone."""
@@ -90,4 +98,8 @@ def headed(lines: list[Any], take: Callable[..., Any]) -> Iterator[Any]:
 
 def modules(crates: Any = CRATES) -> list[Any]:
     """The files of definitions of all crates, in their order."""
-    return [Module(path, crates) for path in sorted(crates.glob("*/specs/**/*.antt"))]
+    found = [Module(path, crates) for path in sorted(crates.glob("*/specs/**/*.antt"))]
+    passed = {alias: module for one in found for alias, module in one.passed.items()}
+    for one in found:
+        one.follow(passed)
+    return found

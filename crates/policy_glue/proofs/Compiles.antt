@@ -1,13 +1,15 @@
 -- The trees and the image of a policy that compiles.
-use Rattle.policy_glue.proofs.Prelude.{◌≡◌, ◌≤◌, ◌*◌, ◌++◌, ◌∷◌, ℕ, Bool, false, List, [], Some, None, Result, Ok, length, append-nil, append_assoc, refl, sym, ap, ◌∙◌, subst, arith, ◌≢◌, ◌<◌, Err, ltb-false, All-head, All-tail, fold-append, All, if◌then◌else◌, Tree, Trees, TreeEntries, no_trees, more_trees, no_entries, more_entries, IsWellFormed, AreWellFormed, HasWellFormedEntries, expanded, expansion_plain, Declaration, scope_of, Typing, typing, CelType, expansion_typed, need, joined, HasLiterals, HaveLiterals, EntriesHaveLiterals, IsEmittable, Checks, IsFormedValidation, IsFormedVariable, IsChecked, HasTrees, EmitsProgram, Checked, TakenOrRefused, over, refused, next, IsOneOf, PartsEnd, TakesCondition, RefusesCondition, TakesValidation, RefusesValidation, TakesVariable, RefusesVariable, depth_in, expression_judged, scope_after, truths, with_variable, excess, policy_nodes, policy_texts, Compiles, NamedExpression, Validation, Policy, HasProgram, ProgramDecides, ProgramIsShort, ProgramStops, IsAcceptedPolicy, PolicyTree, ValidationTree, VariableTree, CompileError, TooManyNodes, TooManyTextBytes, nat_tests, Insn, Exit, image_from, Second, length-spelling, size-append, size-cons, size, spellings, CompilesTo, IsCompiled, OneImage, contents, program_of, FailurePolicy, word_limit, variable_depth_limit, slot_limit, constants_limit, slots_per_node}
+use Rattle.policy_glue.proofs.Prelude.{◌≡◌, ◌≤◌, ◌*◌, ◌++◌, ◌∷◌, ℕ, Bool, true, false, nat_lt, from_program, limit_passed, List, [], Some, None, Result, Ok, length, append-nil, append_assoc, refl, sym, ap, ◌∙◌, subst, arith, ◌≢◌, ◌<◌, Err, ltb-false, All-head, All-tail, fold-append, All, if◌then◌else◌, Tree, Trees, TreeEntries, no_trees, more_trees, no_entries, more_entries, IsWellFormed, AreWellFormed, HasWellFormedEntries, expanded, expansion_plain, Declaration, scope_of, Typing, typing, CelType, expansion_typed, need, joined, HasLiterals, HaveLiterals, EntriesHaveLiterals, IsEmittable, Checks, IsFormedValidation, IsFormedVariable, IsChecked, HasTrees, EmitsProgram, Checked, TakenOrRefused, over, refused, next, IsOneOf, PartsEnd, TakesCondition, RefusesCondition, TakesValidation, RefusesValidation, TakesVariable, RefusesVariable, depth_in, expression_judged, scope_after, truths, with_variable, excess, policy_nodes, policy_texts, Compiles, NamedExpression, Validation, Policy, HasProgram, ProgramDecides, ProgramIsShort, ProgramStops, IsAcceptedPolicy, PolicyTree, ValidationTree, VariableTree, CompileError, TooManyNodes, TooManyTextBytes, nat_tests, Insn, Exit, image_from, Second, length-spelling, size-append, size-cons, size, spellings, CompilesTo, IsCompiled, OneImage, contents, program_of, FailurePolicy, word_limit, variable_depth_limit, slot_limit, constants_limit, slots_per_node}
 use Rattle.cel_reader.specs.Tree as tree
 use Rattle.cel_types.specs.Types as types
 use Rattle.policy_glue.specs.Checking as parts
-use Rattle.policy_glue.specs.ProgramTrees as program
+use Rattle.policy_code.specs.ProgramTrees as program
 use Rattle.policy_glue.proofs.Judged.{shallow_known}
 use Rattle.policy_glue.proofs.OneAnswer.{ok_same}
 use Rattle.policy_glue.proofs.Told.{few_parts}
 use Rattle.loader.specs.Contents as loader
+use Rattle.policy_code.specs.declared.program_error.ProgramError.{ProgramError}
+use Rattle.policy_code.specs.declared.program_error.ProgramError.TheVariants as program_error
 use Rattle.policy_glue.specs.Limits as limits
 use Rattle.policy_glue.specs.declared.compile_error.CompileError.TheVariants as compile_error
 
@@ -148,14 +150,34 @@ has_program p c accepted checks within = grind (arith, has_trees, within_limits,
 failed : (p : Policy) (e : CompileError) → (e ≢ compile_error.Memory → Compiles p (Err e)) → CompilesTo p (Err e)
 failed p e why = grind arith
 
+-- a limit that the program passes is the policy's
+
+passed_by : (long many : Bool) (e : ProgramError) → (if long then Some program_error.TooManyNodes else (if many then Some program_error.TooManyTextBytes else None)) ≡ Some e
+    → (if long then Some TooManyNodes else (if many then Some TooManyTextBytes else None)) ≡ Some (from_program e)
+passed_by true many program_error.TooManyNodes is = refl
+passed_by false true program_error.TooManyTextBytes is = refl
+passed_by _ _ _ is = cc
+
+excess_passed : (t : PolicyTree) (e : ProgramError) → limit_passed t ≡ Some e → excess t ≡ Some (from_program e)
+excess_passed t e is = passed_by (nat_lt slot_limit (slots_per_node * policy_nodes t)) (nat_lt constants_limit (length (joined (policy_texts t)))) e is
+
+none_by : (long many : Bool) → (if long then Some program_error.TooManyNodes else (if many then Some program_error.TooManyTextBytes else None)) ≡ None
+    → (if long then Some TooManyNodes else (if many then Some TooManyTextBytes else None)) ≡ None
+none_by false false is = refl
+none_by _ _ is = cc
+
+pub none_passed : (t : PolicyTree) → limit_passed t ≡ None → excess t ≡ None
+none_passed t is = none_by (nat_lt slot_limit (slots_per_node * policy_nodes t)) (nat_lt constants_limit (length (joined (policy_texts t)))) is
+
 -- a part is refused
 pub refused_part : (p : Policy) (e : CompileError) → Checks p (Err e) → CompilesTo p (Err e)
 refused_part p e checks = failed p e (λ some. limits.refused e (checks some))
 
 -- the whole policy is too large
-pub refused_whole : (p : Policy) (c : Checked) (e : CompileError) → Checks p (Ok c) → ((t : PolicyTree) → IsChecked c t → EmitsProgram p.failure_policy t (Err e))
-    → CompilesTo p (Err e)
-refused_whole p c e checks emits = failed p e (λ some. limits.too_large checks.0 e checks.2 (emits checks.0 checks.1 some))
+pub refused_whole : (p : Policy) (c : Checked) (e : ProgramError) → Checks p (Ok c) → ((t : PolicyTree) → IsChecked c t → EmitsProgram p.failure_policy t (Err e))
+    → CompilesTo p (Err (from_program e))
+refused_whole p c e checks emits =
+    failed p (from_program e) (λ some. limits.too_large checks.0 (from_program e) checks.2 (excess_passed checks.0 e (emits checks.0 checks.1 (λ is. some (ap from_program is)))))
 
 -- ---- the image
 

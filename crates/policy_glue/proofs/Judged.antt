@@ -1,11 +1,12 @@
 -- The check of a policy, step by step, in lemmas over plain variables.
-use Rattle.policy_glue.proofs.Prelude.{◌≡◌, ◌≤◌, ◌<◌, ◌++◌, ◌∷◌, ℕ, List, [], nat_lt, false, Option, Some, None, Result, Ok, Err, IsErr, IfSome, arith, refl, sym, ap, ◌∙◌, ◌+◌, drop, get_or, length, length-append, map, subst, false≢true, nat_tests, All, IsErrAnd, ReadError, UnknownCharacter, InvalidTextLiteral, IntOutOfRange, UnexpectedToken, TooManyOpen, TextTooLong, Tree, ReadReturns, ErrorIsAt, Core, expanded, core_view, MacroFault, ArgumentCount, IterationName, NoSelection, macro_fault, fault_error, CodeCore, MacroError, Declaration, declared, depths_of, scope_of, allowed, typing, CelType, depth, need, saturated, ChecksValidation, ReadsAndExpands, IsAdded, IsExpanded, Judges, JudgesVariable, Sorts, SortsMessage, PartsChecked, Checks, ChecksConditions, ChecksValidations, ChecksVariables, IsFormedVariable, validation_trees, variable_expanded, ReadsTree, IsExpressionRefused, unread, judged, refused, of_another_type, expression, message, depth_in, expression_judged, texts, truths, type_or_any, variable_judged, with_depth, with_typing, TakenOrRefused, over, next, IsVariable, TakesVariable, RefusesVariable, ValidationsEnd, in_conditions, in_validations, in_variables, scope_after, taken, with_variable, from_macros, from_reader, in_part, CompileError, NamedExpression, Validation, Policy, CheckedValidation, NotABool, MessageNotAString, PartKind, Message, CodeValidation, ExpressionError, NeedsTooManyWords, VariableTooDeep, Unread, Unexpanded, Untyped, drop_of_length-le, drop_more, map-append, All-push, fold-append, Checked, CodeNamedExpression, variable_depth_limit}
+use Rattle.policy_glue.proofs.Prelude.{◌≡◌, ◌≤◌, ◌<◌, ◌++◌, ◌∷◌, ℕ, List, [], nat_lt, false, Option, Some, None, Result, Ok, Err, IsErr, IfSome, arith, refl, sym, ap, ◌∙◌, ◌+◌, drop, get_or, length, length-append, map, subst, false≢true, nat_tests, All, IsErrAnd, ReadError, UnknownCharacter, InvalidTextLiteral, IntOutOfRange, UnexpectedToken, TooManyOpen, TextTooLong, Tree, ReadReturns, ErrorIsAt, Core, expanded, core_view, MacroFault, ArgumentCount, IterationName, NoSelection, macro_fault, fault_error, CodeCore, MacroError, Declaration, declared, depths_of, scope_of, allowed, typing, CelType, depth, need, saturated, ChecksValidation, ReadsAndExpands, IsAdded, IsExpanded, Judges, JudgesVariable, Sorts, SortsMessage, PartsChecked, Checks, ChecksConditions, ChecksValidations, ChecksVariables, IsFormedVariable, validation_trees, variable_expanded, ReadsTree, IsExpressionRefused, unread, judged, refused, of_another_type, expression, message, depth_in, expression_judged, texts, truths, type_or_any, variable_judged, with_depth, with_typing, TakenOrRefused, over, next, IsVariable, TakesVariable, RefusesVariable, ValidationsEnd, in_conditions, in_validations, in_variables, scope_after, taken, with_variable, from_macros, from_reader, in_part, CompileError, NamedExpression, Validation, Policy, CheckedValidation, NotABool, MessageNotAString, PartKind, Message, CodeValidation, ExpressionError, NeedsTooManyWords, VariableTooDeep, Unread, Unexpanded, Untyped, drop_of_length-le, map-append, All-push, fold-append, Checked, CodeNamedExpression, variable_depth_limit}
 use Rattle.cel_tokens.specs.declared.read_error.ReadError.TheVariants as read_error
 use Rattle.cel_macros.specs.declared.macro_error.MacroError.TheVariants as macro_error
 use Rattle.policy_glue.specs.Checked.{ConditionsChecked, ValidationsChecked, VariablesChecked}
 use Rattle.policy_glue.specs.declared.expression_error.ExpressionError.TheVariants as expression_error
 use Rattle.policy_glue.specs.declared.part_kind.PartKind.TheVariants.{Variable}
 use Rattle.policy_glue.proofs.OneAnswer.{err_same}
+use Rattle.policy_code.proofs.Emission.{at_place}
 use Rattle.cel_reader.proofs.Unreadable.{result_refused}
 use Rattle.std.specs.Option.{option_map_or}
 
@@ -181,9 +182,6 @@ pub record Walked {A B C : Type 0} (Takes : List B → A → B → Type 0) (Refu
   pub goes : (end : Result (List B) CompileError) → TakenOrRefused Takes Refuses taken rest end → TakenOrRefused Takes Refuses [] all end
 
 -- the place of the loop in a list of the code
-pub at_place : {A B : Type 0} (f : A → B) (xs : List A) (i : ℕ) (x : A) → i < length xs → x ≡ get_or xs i x → map f (drop i xs) ≡ f x ∷ map f (drop (i + 1) xs)
-at_place f xs i x below is = ap (map f) (drop_more xs i x below ∙ ap (λ y. y ∷ drop (i + 1) xs) (sym is))
-
 module _ {A B C X : Type 0} {Takes : List B → A → B → Type 0} {Refuses : List B → A → CompileError → Type 0} {seen : B → C}
     {IsFormed : B → Type 0} {all : List A} {place : ℕ} {trees : List C} (view : X → A) (xs : List X) where
   -- one step of the loop over a list of the code

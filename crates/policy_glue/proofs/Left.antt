@@ -1,7 +1,7 @@
 -- The denials of a verdict whose words are read one by one.
 use Rattle.policy_glue.proofs.Prelude.{◌≡◌, ◌<◌, ◌≤◌, ◌+◌, ◌*◌, ◌-◌, ◌∙◌, ◌∷◌, ◌++◌, ℕ, zero, suc, List, [], length, Option, Some, None, arith, refl, sym, ap, map, subst, length-map, slice_get, if◌then◌else◌, Memory, IsMemory, ValueOrError, IsLayout, finding_word, first_message, first_result, message_in, part_limit, text_named, verdict_word, outcome_of, truth_word, Finding, Verdict, CheckResult, denies, FailurePolicy, IsAcceptedPolicy, Parts, denials_by, denials_read, denies_word, Validation, Policy, validation_view, policy_view, Rejection, Denial, denials_of, Outcome}
 use Rattle.policy_glue.specs.Rejections.{denied, rejection_by, rejection_of, undecided}
-use Rattle.policy_glue.specs.declared.outcome.Outcome.{TheVariants.Rejected, TheVariants.Denied}
+use Rattle.policy_code.specs.declared.outcome.Outcome.{TheVariants.Rejected, TheVariants.Denied}
 use Rattle.policy_glue.proofs.Told.{few_parts, finding_read, message_read, outcome_is}
 
 -- ---- the loop over the validations

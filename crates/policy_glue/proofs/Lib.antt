@@ -2,8 +2,6 @@
 
 mod Compiles
 mod Distinct
-mod MessageTails
-mod Emission
 mod Escapes
 mod Found
 mod FoundOnLiterals
@@ -13,8 +11,6 @@ mod Lists
 mod Named
 mod OnLiterals
 mod OneAnswer
-mod PartTexts
-mod Programs
 mod Read
 mod ResponseTexts
 mod Told

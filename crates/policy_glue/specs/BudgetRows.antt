@@ -3,12 +3,13 @@ use Rattle.std.specs.Prelude.{◌≡◌, ◌+◌, ◌*◌, [], ◌∷◌, Some, 
 use Rattle.cel_reader.specs.Written.{str, yes, no}
 use Rattle.cel_measures.specs.Rows.{conjoined}
 use Rattle.expression_code.specs.Limits.{charge_per_unit}
-use Rattle.policy_glue.specs.Budget.{policy_spent, policy_work}
+use Rattle.policy_code.specs.Budget.{policy_spent, policy_work}
 use Rattle.policy_glue.specs.DecisionRows.{at_most_three, bare, five, policy_of_validations, wrong}
-use Rattle.policy_glue.specs.Limits.{excess, policy_nodes, policy_texts}
-use Rattle.policy_glue.specs.Trees.{PolicyTree}
+use Rattle.policy_glue.specs.Limits.{excess}
+use Rattle.policy_code.specs.Limits.{policy_nodes, policy_texts}
+use Rattle.policy_code.specs.Trees.{PolicyTree}
 use Rattle.policy_glue.specs.declared.compile_error.CompileError.TheVariants.{TooManyNodes}
-use Rattle.policy_glue.specs.declared.failure_policy.FailurePolicy.TheVariants.{Fail}
+use Rattle.policy_code.specs.declared.failure_policy.FailurePolicy.TheVariants.{Fail}
 
 abbrev pub few_replicas : PolicyTree
 few_replicas = policy_of_validations (bare at_most_three ∷ [])

@@ -10,13 +10,16 @@ use Rattle.cel_macros.specs.declared.core_tree.Core.{Core as CodeCore}
 use Rattle.cel_types.specs.Declarations.{Declaration}
 use Rattle.cel_types.specs.declared.scope.Scope.{Scope}
 use Rattle.cel_types.specs.declared.cel_type.CelType.{CelType}
-use Rattle.policy_glue.specs.Checking.{TakenOrRefused, ReadsTree, IsTaken, IsExpressionRefused, IsOneOf, IsNoneOf, IsVariable, IsNoVariable, IsMessage, IsValidation, IsNoValidation, with_variable}
+use Rattle.policy_glue.specs.Checking.{TakenOrRefused, ReadsTree, IsTaken, IsExpressionRefused, IsOneOf, IsNoneOf, IsVariable, IsNoVariable, IsMessage, IsValidation, IsNoValidation}
 use Rattle.policy_glue.specs.Checking.{PartsEnd, VariablesEnd, ConditionsEnd, ValidationsEnd, truths}
-use Rattle.policy_glue.specs.Checking.{depth_in, expression_judged, scope_after, texts, variable_judged}
+use Rattle.policy_code.specs.Scopes.{depth_in, scope_after, with_variable}
+use Rattle.policy_code.specs.Checked.{IsChecked, IsFormedValidation, IsFormedVariable}
+use Rattle.policy_code.specs.Checked.{validation_expanded, validation_trees, variable_expanded}
+use Rattle.policy_glue.specs.Checking.{expression_judged, texts, variable_judged}
 use Rattle.policy_glue.specs.Policy.{NamedExpression, Validation, Policy}
-use Rattle.policy_glue.specs.Trees.{VariableTree, ValidationTree, PolicyTree}
-use Rattle.policy_glue.specs.declared.checked.Checked.{Checked}
-use Rattle.policy_glue.specs.declared.checked_validation.CheckedValidation.{CheckedValidation}
+use Rattle.policy_code.specs.Trees.{VariableTree, ValidationTree, PolicyTree}
+use Rattle.policy_code.specs.declared.checked.Checked.{Checked}
+use Rattle.policy_code.specs.declared.checked_validation.CheckedValidation.{CheckedValidation}
 use Rattle.policy_glue.specs.declared.compile_error.CompileError.{CompileError, TheVariants.MessageNotAString, TheVariants.NotABool}
 use Rattle.policy_glue.specs.declared.compile_error.CompileError.TheVariants as compile_error
 use Rattle.policy_glue.specs.declared.expression_error.ExpressionError.{ExpressionError}
@@ -50,10 +53,6 @@ RefusesValidation scope taken n e = IsNoValidation scope (length taken) n e
 -- the tree with its macros expanded; its literals are valid values and its names valid names
 abbrev pub IsExpanded : CodeCore → Tree → Type 0
 IsExpanded core a = (core_view core ≡ expanded a) × IsWellFormed a
-
--- the trees of a validation are well formed
-abbrev pub IsFormedValidation : ValidationTree → Type 0
-IsFormedValidation r = IsWellFormed r.expression × IfSome r.message IsWellFormed
 
 -- the text is read and its macros are expanded, or it is refused in every scope; or an allocation failed
 abbrev pub ReadsAndExpands : List ℕ → Result CodeCore ExpressionError → Type 0
@@ -100,12 +99,6 @@ pub record PartsChecked {A B C : Type 0} (Takes : List B → A → B → Type 0)
   pub trees_are : trees ≡ map seen taken
   pub formed : All IsFormed taken
 
-abbrev pub variable_expanded : VariableTree → Core
-variable_expanded v = expanded v.expression
-
-abbrev pub IsFormedVariable : VariableTree → Type 0
-IsFormedVariable v = IsWellFormed v.expression
-
 pub record VariablesChecked (ns : List NamedExpression) (scope : List Declaration) (trees : List Core) : Type 0 where
   pub are : PartsChecked TakesVariable RefusesVariable variable_expanded IsFormedVariable ns trees
   pub scope_is : scope ≡ scope_after are.taken
@@ -120,12 +113,6 @@ ConditionsChecked ns trees = PartsChecked TakesCondition RefusesCondition expand
 abbrev pub ChecksConditions : List NamedExpression → Result (Vec CodeCore Global) CompileError → Type 0
 ChecksConditions ns (Ok v) = ConditionsChecked ns (map core_view v.items)
 ChecksConditions ns (Err e) = e ≢ compile_error.Memory → ConditionsEnd ns (Err e)
-
-abbrev pub validation_trees : CheckedValidation → Core × Option Core
-validation_trees v = (core_view v.expression, option_map core_view v.message)
-
-abbrev pub validation_expanded : ValidationTree → Core × Option Core
-validation_expanded r = (expanded r.expression, option_map expanded r.message)
 
 -- the refusal of a validation's message expression, if it has one
 pub record IsNoMessage (scope : List Declaration) (place : ℕ) (text : Option (List ℕ)) (e : CompileError) : Type 0 where
@@ -152,20 +139,6 @@ ChecksValidations scope ns (Ok v) = ValidationsChecked scope ns (map validation_
 ChecksValidations scope ns (Err e) = e ≢ compile_error.Memory → ValidationsEnd scope ns (Err e)
 
 -- ---- a policy
-
--- the literals of its trees are valid values, and the names valid names
-pub record IsFormed (t : PolicyTree) : Type 0 where
-  pub variables : All IsFormedVariable t.variables
-  pub conditions : All IsWellFormed t.conditions
-  pub validations : All IsFormedValidation t.validations
-
--- the result of the check holds these trees
-pub record IsChecked (checked : Checked) (t : PolicyTree) : Type 0 where
-  pub scope : checked.scope ≡ scope_after t.variables
-  pub variables : map core_view checked.variables.items ≡ map variable_expanded t.variables
-  pub conditions : map core_view checked.conditions.items ≡ map expanded t.conditions
-  pub validations : map validation_trees checked.validations.items ≡ map validation_expanded t.validations
-  pub formed : IsFormed t
 
 -- the parts of the policy are checked, or its first refusal is returned; or an allocation failed
 abbrev pub Checks : Policy → Result Checked CompileError → Type 0

@@ -1,7 +1,7 @@
 -- Which expressions a policy may have, and which one is refused first. Variables, conditions and validations are
 -- checked in this order, each list in its own order. A message expression comes directly after its validation. Each
 -- expression is checked completely before the next.
-use Rattle.std.specs.Prelude.{◌≡◌, ℕ, true, false, List, [], ◌∷◌, ◌++◌, length, fold, nat_lt, Option, Some, None, Result, Ok, Err, if◌then◌else◌}
+use Rattle.std.specs.Prelude.{◌≡◌, ℕ, true, false, List, [], ◌∷◌, ◌++◌, length, nat_lt, Option, Some, None, Result, Ok, Err, if◌then◌else◌}
 use Rattle.std.specs.Option.{option_map_or}
 use Rattle.cel_reader.specs.Limits.{open_limit}
 use Rattle.cel_tokens.specs.Token.{Token}
@@ -12,17 +12,18 @@ use Rattle.cel_reader.specs.Tree.{Tree}
 use Rattle.cel_reader.specs.Answers.{IsUnreadable, IsExpression}
 use Rattle.cel_macros.specs.CoreTree.{expanded}
 use Rattle.cel_macros.specs.MacroFault.{macro_fault, fault_error}
-use Rattle.cel_types.specs.Declarations.{Declaration, declared, depths_of, scope_of}
+use Rattle.cel_types.specs.Declarations.{Declaration, scope_of}
 use Rattle.cel_types.specs.Types as typing
 use Rattle.cel_types.specs.Types.{TypeFault, Typing, UnknownName, NoOverload, MisplacedVariables, allowed}
 use Rattle.cel_types.specs.Typing.{typing as type_of}
 use Rattle.cel_types.specs.declared.cel_type.CelType.{CelType}
 use Rattle.cel_types.specs.declared.cel_type.CelType.TheVariants as type
 use Rattle.cel_types.specs.declared.type_error.TypeError.{TypeError, TheVariants.UnknownIdentifier, TheVariants.NoMatchingOverload, TheVariants.MisusedVariables}
-use Rattle.cel_measures.specs.Measures.{need, depth}
+use Rattle.cel_measures.specs.Measures.{need}
 use Rattle.expression_code.specs.Limits.{word_limit, variable_depth_limit}
 use Rattle.policy_glue.specs.Policy.{NamedExpression, Validation, Policy}
-use Rattle.policy_glue.specs.Trees.{VariableTree, ValidationTree, PolicyTree}
+use Rattle.policy_code.specs.Trees.{VariableTree, ValidationTree, PolicyTree}
+pub use Rattle.policy_code.specs.Scopes.{depth_in, scope_after, type_or_any, with_variable}
 use Rattle.policy_glue.specs.declared.part_kind.PartKind.{PartKind, TheVariants.Variable, TheVariants.Condition, TheVariants.Validation as CodeValidation, TheVariants.Message}
 use Rattle.policy_glue.specs.declared.expression_error.ExpressionError.{ExpressionError}
 use Rattle.policy_glue.specs.declared.expression_error.ExpressionError.TheVariants.{Unread, Unexpanded, Untyped, NeedsTooManyWords, VariableTooDeep}
@@ -51,10 +52,6 @@ expression_judged scope a =
 abbrev pub with_depth : ℕ → Result CelType ExpressionError → Result CelType ExpressionError
 with_depth d (Ok t) = if nat_lt variable_depth_limit d then Err VariableTooDeep else Ok t
 with_depth d (Err e) = Err e
-
--- the depth of a variable with this tree, which may use these variables
-abbrev pub depth_in : List Declaration → Tree → ℕ
-depth_in scope a = depth (expanded a) (depths_of scope)
 
 -- the type of a variable's tree, or why the variable is refused
 abbrev pub variable_judged : List Declaration → Tree → Result CelType ExpressionError
@@ -119,19 +116,6 @@ pub data TakenOrRefused {A B : Type 0} (Takes : List B → A → B → Type 0) (
       → TakenOrRefused Takes Refuses taken (part ∷ more) (Err e)
   next : {taken : List B} {part : A} {more : List A} {end : Result (List B) CompileError} (tree : B) → Takes taken part tree
       → TakenOrRefused Takes Refuses (taken ++ tree ∷ []) more end → TakenOrRefused Takes Refuses taken (part ∷ more) end
-
--- the type if type checking found one, else `dyn`
-abbrev pub type_or_any : Typing → CelType
-type_or_any (typing.typed t) = t
-type_or_any (typing.refused y) = type.Dyn
-
--- the scope with one more variable, which has the type found for it there
-abbrev pub with_variable : List Declaration → VariableTree → List Declaration
-with_variable scope v = scope ++ declared v.name (type_or_any (type_of v.expression (scope_of scope))) (depth_in scope v.expression) ∷ []
-
--- the scope after these variables
-abbrev pub scope_after : List VariableTree → List Declaration
-scope_after variables = fold with_variable [] variables
 
 -- a variable may use those in scope: the earlier ones
 pub record IsVariable (scope : List Declaration) (n : NamedExpression) (v : VariableTree) : Type 0 where

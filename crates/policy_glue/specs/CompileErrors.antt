@@ -4,6 +4,8 @@ use Rattle.cel_tokens.specs.declared.read_error.ReadError.{ReadError}
 use Rattle.cel_tokens.specs.declared.read_error.ReadError.TheVariants as read_error
 use Rattle.cel_macros.specs.declared.macro_error.MacroError.{MacroError}
 use Rattle.cel_macros.specs.declared.macro_error.MacroError.TheVariants as macro_error
+use Rattle.policy_code.specs.declared.program_error.ProgramError.{ProgramError}
+use Rattle.policy_code.specs.declared.program_error.ProgramError.TheVariants as program_error
 use Rattle.policy_glue.specs.ErrorCodes.{compile_error_code, expression_error_code, expression_error_place}
 use Rattle.policy_glue.specs.declared.part_kind.PartKind.{PartKind, TheVariants.Variable, TheVariants.Condition, TheVariants.Validation, TheVariants.Message}
 use Rattle.policy_glue.specs.declared.expression_error.ExpressionError.{ExpressionError, TheVariants.Unread, TheVariants.Unexpanded}
@@ -50,3 +52,9 @@ from_macros e = Unexpanded e
 abbrev pub in_part : PartKind → ℕ → ExpressionError → CompileError
 in_part part place expression_error.Memory = compile_error.Memory
 in_part part place e = InvalidExpression part place e
+
+-- the error of a program as the policy's error
+abbrev pub from_program : ProgramError → CompileError
+from_program program_error.TooManyNodes = compile_error.TooManyNodes
+from_program program_error.TooManyTextBytes = compile_error.TooManyTextBytes
+from_program program_error.Memory = compile_error.Memory

@@ -11,13 +11,14 @@ use Rattle.cel_types.specs.Types.{allowed}
 use Rattle.cel_types.specs.declared.cel_type.CelType.TheVariants as type
 use Rattle.cel_types.specs.declared.type_error.TypeError.TheVariants.{NoMatchingOverload, MisusedVariables}
 use Rattle.cel_measures.specs.Rows.{to_the_right}
-use Rattle.policy_glue.specs.Checking.{expression_judged, scope_after, texts, truths, variable_judged}
-use Rattle.policy_glue.specs.Evaluation.{decision_of}
-use Rattle.policy_glue.specs.Trees.{VariableTree, ValidationTree, PolicyTree}
-use Rattle.policy_glue.specs.Verdict.{Verdict, Finding, CheckResult, Holds, Fails, Errs}
-use Rattle.policy_glue.specs.declared.outcome.Outcome.{TheVariants.Skipped, TheVariants.Rejected, TheVariants.Denied, TheVariants.Admitted}
+use Rattle.policy_glue.specs.Checking.{expression_judged, texts, truths, variable_judged}
+use Rattle.policy_code.specs.Scopes.{scope_after}
+use Rattle.policy_code.specs.Evaluation.{decision_of}
+use Rattle.policy_code.specs.Trees.{VariableTree, ValidationTree, PolicyTree}
+use Rattle.policy_code.specs.Verdict.{Verdict, Finding, CheckResult, Holds, Fails, Errs}
+use Rattle.policy_code.specs.declared.outcome.Outcome.{TheVariants.Skipped, TheVariants.Rejected, TheVariants.Denied, TheVariants.Admitted}
 use Rattle.policy_glue.specs.declared.expression_error.ExpressionError.TheVariants.{Unexpanded, Untyped, NeedsTooManyWords, VariableTooDeep}
-use Rattle.policy_glue.specs.declared.failure_policy.FailurePolicy.{FailurePolicy, TheVariants.Fail, TheVariants.Ignore}
+use Rattle.policy_code.specs.declared.failure_policy.FailurePolicy.{FailurePolicy, TheVariants.Fail, TheVariants.Ignore}
 
 -- ---- decisions
 

@@ -4,12 +4,13 @@ use Rattle.std.specs.Prelude.{Option, Some, None, option_map, if◌then◌else�
 use Rattle.guest_memory.specs.Memory.{Memory}
 use Rattle.value_store.specs.Value.{ValueOrError}
 use Rattle.policy_glue.specs.Policy.{Validation, validation_view}
-use Rattle.policy_glue.specs.Layout.{VerdictWords, first_message, first_result, text_named, verdict_word, words_view}
+use Rattle.policy_glue.specs.Layout.{VerdictWords, text_named, verdict_word, words_view}
+use Rattle.policy_code.specs.Layout.{first_message, first_result}
 use Rattle.policy_glue.specs.Response.{Denial}
 use Rattle.policy_glue.specs.declared.parts.Parts.{Parts}
 use Rattle.policy_glue.specs.declared.verdict.Verdict.{Verdict}
 use Rattle.policy_glue.specs.declared.denial.Denial.{Denial as CodeDenial}
-use Rattle.policy_glue.specs.declared.failure_policy.FailurePolicy.{FailurePolicy, TheVariants.Fail, TheVariants.Ignore}
+use Rattle.policy_code.specs.declared.failure_policy.FailurePolicy.{FailurePolicy, TheVariants.Fail, TheVariants.Ignore}
 
 abbrev pub denial_view : CodeDenial → Denial
 denial_view d = record { validation = validation_view d.validation.now; message = option_map (λ t. t.now) d.message }

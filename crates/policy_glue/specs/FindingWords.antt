@@ -2,10 +2,11 @@
 use Rattle.std.specs.Prelude.{ℕ, ◌+◌, List, [], ◌∷◌, map, nat_eq, slice_get, slice_index, if◌then◌else◌}
 use Rattle.policy_glue.specs.Denials.{lent}
 use Rattle.policy_glue.specs.Findings.{PolicyFinding, before_others, finding_at}
-use Rattle.policy_glue.specs.Layout.{VerdictWords, truth_word, words_view}
+use Rattle.policy_glue.specs.Layout.{VerdictWords, words_view}
+use Rattle.policy_code.specs.Layout.{truth_word}
 use Rattle.policy_glue.specs.Policy.{Validation, validation_view}
-use Rattle.policy_glue.specs.Verdict.{CheckResult, Holds, Fails, Errs}
-use Rattle.policy_glue.specs.declared.failure_policy.FailurePolicy.{FailurePolicy}
+use Rattle.policy_code.specs.Verdict.{CheckResult, Holds, Fails, Errs}
+use Rattle.policy_code.specs.declared.failure_policy.FailurePolicy.{FailurePolicy}
 use Rattle.policy_glue.specs.declared.parts.Parts.{Parts}
 use Rattle.policy_glue.specs.declared.verdict.Verdict.{Verdict}
 

@@ -4,10 +4,10 @@ use Rattle.std.specs.Prelude.{ℕ, ◌+◌, ◌++◌, ◌&&◌, Bool, not, List,
 use Rattle.std.specs.List.{list_any}
 use Rattle.std.specs.Str.{trim}
 use Rattle.policy_glue.specs.Policy.{Policy, Validation}
-use Rattle.policy_glue.specs.Verdict.{CheckResult, Holds, Fails, Errs, Finding, Verdict}
-use Rattle.policy_glue.specs.declared.failure_policy.FailurePolicy.{FailurePolicy, TheVariants.Fail, TheVariants.Ignore}
+use Rattle.policy_code.specs.Verdict.{CheckResult, Holds, Fails, Errs, Finding, Verdict}
+use Rattle.policy_code.specs.declared.failure_policy.FailurePolicy.{FailurePolicy, TheVariants.Fail, TheVariants.Ignore}
 use Rattle.policy_glue.specs.declared.finding.Finding.{Finding as CodeFinding}
-use Rattle.policy_glue.specs.declared.outcome.Outcome.{Outcome, TheVariants.Skipped, TheVariants.Admitted, TheVariants.Rejected, TheVariants.Denied}
+use Rattle.policy_code.specs.declared.outcome.Outcome.{Outcome, TheVariants.Skipped, TheVariants.Admitted, TheVariants.Rejected, TheVariants.Denied}
 use Rattle.policy_glue.specs.declared.reason.Reason.{Reason, TheVariants.Invalid}
 
 -- what is found against a request: the place of the validation, the message and the reason

@@ -1,6 +1,6 @@
--- Definitions for policies: their documents, their compilation, their verdicts and their responses.
+-- Definitions for policies: their documents, their compilation, their verdicts and their responses. The definitions of
+-- what they decide and of their programs are those of `policy_code`.
 
-pub mod Budget
 pub mod BudgetRows
 pub mod Checked
 pub mod Checking
@@ -9,9 +9,7 @@ pub mod Compiled
 pub mod DecisionRows
 pub mod Denials
 pub mod Documents
-pub mod Emission
 pub mod ErrorCodes
-pub mod Evaluation
 pub mod FindingRows
 pub mod FindingWords
 pub mod Findings
@@ -23,17 +21,16 @@ pub mod NamingRows
 pub mod OneAnswer
 pub mod OneImage
 pub mod Policy
-pub mod Program
-pub mod ProgramCode
-pub mod ProgramLaws
-pub mod ProgramParts
-pub mod ProgramTrees
 pub mod Reading
 pub mod Response
 pub mod ResponseTokens
 pub mod LimitRows
 pub mod Rows
 pub mod RunRows
-pub mod Trees
-pub mod Verdict
 pub mod RejectionRows
+pub use Rattle.policy_code.specs.Budget
+pub use Rattle.policy_code.specs.Evaluation
+pub use Rattle.policy_code.specs.ProgramLaws
+pub use Rattle.policy_code.specs.ProgramTrees
+pub use Rattle.policy_code.specs.Trees
+pub use Rattle.policy_code.specs.Verdict

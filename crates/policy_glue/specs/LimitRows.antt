@@ -5,9 +5,9 @@ use Rattle.policy_glue.specs.Policy.{NamedExpression, Policy, Validation}
 use Rattle.policy_glue.specs.Reading.{failure_in, judged, reason_in}
 use Rattle.policy_glue.specs.Response.{response_of}
 use Rattle.policy_glue.specs.Rows.{denied_as, plain_validation, policy_with}
-use Rattle.policy_glue.specs.Verdict.{Fails}
-use Rattle.policy_glue.specs.declared.failure_policy.FailurePolicy.TheVariants.{Fail, Ignore}
-use Rattle.policy_glue.specs.declared.outcome.Outcome.TheVariants.{Denied}
+use Rattle.policy_code.specs.Verdict.{Fails}
+use Rattle.policy_code.specs.declared.failure_policy.FailurePolicy.TheVariants.{Fail, Ignore}
+use Rattle.policy_code.specs.declared.outcome.Outcome.TheVariants.{Denied}
 use Rattle.policy_glue.specs.declared.policy_error.PolicyError.TheVariants.{NoValidations, TooManyParts}
 use Rattle.policy_glue.specs.declared.reason.Reason.{Reason}
 use Rattle.policy_glue.specs.declared.reason.Reason.TheVariants.{Unauthorized, Forbidden, Invalid, RequestEntityTooLarge}

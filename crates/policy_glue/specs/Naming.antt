@@ -5,7 +5,7 @@ use Rattle.cel_reader.specs.Tree.{Tree, Trees, TreeEntries, literal, name, selec
 use Rattle.cel_reader.specs.Tree.{no_trees, more_trees, no_entries, more_entries}
 use Rattle.policy_glue.specs.Checking.{ReadsTree}
 use Rattle.policy_glue.specs.Policy.{NamedExpression}
-use Rattle.policy_glue.specs.Trees.{PolicyTree}
+use Rattle.policy_code.specs.Trees.{PolicyTree}
 
 unfoldable mutual
   -- whether some node of the expression is the name n, also one that a macro binds

@@ -9,7 +9,7 @@ use Rattle.policy_glue.specs.Checking.{IsOneOf, IsTaken, expression_judged}
 use Rattle.policy_glue.specs.Limits.{Compiles}
 use Rattle.policy_glue.specs.OneImage.{OneImage}
 use Rattle.policy_glue.specs.Policy.{Policy}
-use Rattle.policy_glue.specs.Trees.{PolicyTree}
+use Rattle.policy_code.specs.Trees.{PolicyTree}
 use Rattle.policy_glue.specs.declared.compile_error.CompileError.{CompileError}
 
 -- two results for a policy are the same trees or the same refusal

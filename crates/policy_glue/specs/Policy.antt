@@ -1,16 +1,13 @@
 -- A policy (ValidatingAdmissionPolicy, admissionregistration.k8s.io/v1) as its document states it. Texts are bytes in
 -- UTF-8.
 use Rattle.std.specs.Prelude.{ℕ, List, map, Option, option_map, string_bytes, codes}
-use Rattle.policy_glue.specs.declared.failure_policy.FailurePolicy.{FailurePolicy}
+use Rattle.policy_code.specs.declared.failure_policy.FailurePolicy.{FailurePolicy}
 use Rattle.policy_glue.specs.declared.reason.Reason.{Reason}
 use Rattle.policy_glue.specs.declared.reason.Reason.TheVariants.{Unauthorized, Forbidden, Invalid, RequestEntityTooLarge}
 use Rattle.policy_glue.specs.declared.named_expression.NamedExpression.{NamedExpression as CodeNamedExpression}
 use Rattle.policy_glue.specs.declared.validation.Validation.{Validation as CodeValidation}
 use Rattle.policy_glue.specs.declared.parts.Parts.{Parts}
-
--- the largest number of conditions, of variables and of validations; a verdict has a word for each validation
-abbrev pub part_limit : ℕ
-part_limit = 64
+pub use Rattle.policy_code.specs.Limits.{part_limit}
 
 -- a match condition or a variable
 pub record NamedExpression : Type 0 where

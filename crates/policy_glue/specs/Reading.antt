@@ -10,9 +10,10 @@ use Rattle.insn_codec.specs.Candidate.{◌>>=◌}
 use Rattle.cel_reader.specs.Words.{is_identifier}
 use Rattle.policy_glue.specs.Documents.{document_of, has_only, is_object_or_absent, equals_string, text_of, optional_text_of}
 use Rattle.policy_glue.specs.Documents.{text_or_empty_of, list_in, optional_list_in}
-use Rattle.policy_glue.specs.Policy.{NamedExpression, Validation, Policy, part_limit}
+use Rattle.policy_glue.specs.Policy.{NamedExpression, Validation, Policy}
+use Rattle.policy_code.specs.Limits.{part_limit}
 use Rattle.policy_glue.specs.declared.name_rule.NameRule.{NameRule, TheVariants.NotEmpty, TheVariants.Identifier}
-use Rattle.policy_glue.specs.declared.failure_policy.FailurePolicy.{FailurePolicy, TheVariants.Fail, TheVariants.Ignore}
+use Rattle.policy_code.specs.declared.failure_policy.FailurePolicy.{FailurePolicy, TheVariants.Fail, TheVariants.Ignore}
 use Rattle.policy_glue.specs.declared.reason.Reason.{Reason}
 use Rattle.policy_glue.specs.declared.reason.Reason.TheVariants.{Unauthorized, Forbidden, Invalid, RequestEntityTooLarge}
 use Rattle.policy_glue.specs.declared.policy_error.PolicyError.{PolicyError}

@@ -4,8 +4,8 @@ use Rattle.serde_json.specs.Data as json
 use Rattle.serde_json.specs.Written.{compact_text}
 use Rattle.policy_glue.specs.Policy.{Policy}
 use Rattle.policy_glue.specs.Response.{Denial, allowed_tree, denial_text, denials_of, denied_tree, first_reason, joined, review_tree}
-use Rattle.policy_glue.specs.Verdict.{Verdict}
-use Rattle.policy_glue.specs.declared.outcome.Outcome.{Outcome, TheVariants.Skipped, TheVariants.Admitted, TheVariants.Rejected, TheVariants.Denied}
+use Rattle.policy_code.specs.Verdict.{Verdict}
+use Rattle.policy_code.specs.declared.outcome.Outcome.{Outcome, TheVariants.Skipped, TheVariants.Admitted, TheVariants.Rejected, TheVariants.Denied}
 use Rattle.policy_glue.specs.declared.rejection.Rejection.{Rejection as CodeRejection}
 use Rattle.policy_glue.specs.declared.reason.Reason.{Reason, TheVariants.Invalid}
 

@@ -6,9 +6,9 @@ use Rattle.serde_json.specs.Data as json
 use Rattle.serde_json.specs.Written.{compact_text}
 use Rattle.policy_glue.specs.Policy.{Validation, Policy, reason_name, reason_code}
 use Rattle.policy_glue.specs.Reading.{has_line_break}
-use Rattle.policy_glue.specs.Verdict.{Finding, Verdict, is_denial}
-use Rattle.policy_glue.specs.declared.outcome.Outcome.{Outcome, TheVariants.Rejected, TheVariants.Denied}
-use Rattle.policy_glue.specs.declared.failure_policy.FailurePolicy.{FailurePolicy}
+use Rattle.policy_code.specs.Verdict.{Finding, Verdict, is_denial}
+use Rattle.policy_code.specs.declared.outcome.Outcome.{Outcome, TheVariants.Rejected, TheVariants.Denied}
+use Rattle.policy_code.specs.declared.failure_policy.FailurePolicy.{FailurePolicy}
 use Rattle.policy_glue.specs.declared.reason.Reason.{Reason, TheVariants.Invalid}
 
 -- ---- the message of a denial

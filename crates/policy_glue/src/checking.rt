@@ -5,8 +5,6 @@ ghost use Rattle.cel_macros.specs.CoreView.{core_view};
 ghost use Rattle.policy_glue.specs.Checked.{AddsVariable, Checks, ChecksConditions, ChecksValidation, ChecksValidations, ChecksVariables, SortsMessage};
 ghost use Rattle.policy_glue.specs.Policy.{named_view, validation_view, policy_view};
 
-use crate::checked::Checked;
-use crate::checked_validation::CheckedValidation;
 use crate::compile_error::CompileError;
 use crate::judging::{part_judged, variable_judged};
 use crate::named_expression::NamedExpression;
@@ -16,6 +14,7 @@ use crate::policy::Policy;
 use crate::validation::Validation;
 use cel_macros::Core;
 use cel_types::Scope;
+use policy_code::{Checked, CheckedValidation};
 use std::alloc::Global;
 
 /// The policy with its expressions checked, or its first refusal. Variables come first, then match

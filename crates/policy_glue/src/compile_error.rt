@@ -1,12 +1,13 @@
 //! Why a policy is not compiled.
 
 ghost use Rattle.std.specs.Prelude.{◌≡◌, Some};
-ghost use Rattle.policy_glue.specs.CompileErrors.{compile_text};
+ghost use Rattle.policy_glue.specs.CompileErrors.{compile_text, from_program};
 ghost use Rattle.policy_glue.specs.declared.compile_error.CompileError.TheVariants.{Memory};
 
 use crate::expression_error::ExpressionError;
 use crate::part_kind::PartKind;
 use codegen::CodeError;
+use policy_code::ProgramError;
 use std::alloc::{AllocError, AllocFailed};
 use std::error::Error;
 use std::fmt;
@@ -83,5 +84,17 @@ impl<T: Drop> From<AllocFailed<T>> for CompileError {
 
     fn from(_error: AllocFailed<T>) -> CompileError {
         CompileError::Memory
+    }
+}
+
+impl From<ProgramError> for CompileError {
+    ghost from_gives = { λ e x. x ≡ from_program e };
+
+    fn from(error: ProgramError) -> CompileError {
+        match error {
+            ProgramError::TooManyNodes => CompileError::TooManyNodes,
+            ProgramError::TooManyTextBytes => CompileError::TooManyTextBytes,
+            ProgramError::Memory => CompileError::Memory,
+        }
     }
 }

@@ -1,8 +1,10 @@
 //! The denials of a verdict.
 
 ghost use Rattle.std.specs.Prelude.{◌≡◌, ◌≤◌, ◌+◌, length, map, string_bytes, IfOk};
-ghost use Rattle.policy_glue.specs.Policy.{validation_view, part_limit};
-ghost use Rattle.policy_glue.specs.Layout.{first_message, first_result, text_named, verdict_word, words_view};
+ghost use Rattle.policy_glue.specs.Policy.{validation_view};
+ghost use Rattle.policy_code.specs.Limits.{part_limit};
+ghost use Rattle.policy_code.specs.Layout.{first_message, first_result};
+ghost use Rattle.policy_glue.specs.Layout.{text_named, verdict_word, words_view};
 ghost use Rattle.policy_glue.specs.Denials.{denial_view, denials_by, denials_told, denies_word};
 ghost use Rattle.policy_glue.specs.Response.{denial_text, first_reason, joined, separator_of};
 
@@ -10,8 +12,9 @@ use crate::denial::Denial;
 use crate::failure_policy::FailurePolicy;
 use crate::reason::Reason;
 use crate::validation::Validation;
-use crate::verdict::{ERRS, FAILS, FIRST_MESSAGE, FIRST_RESULT, Verdict, text_named, word};
+use crate::verdict::{Verdict, text_named, word};
 use guest_memory::Regions;
+use policy_code::verdict_words::{ERRS, FAILS, FIRST_MESSAGE, FIRST_RESULT};
 use std::alloc::{AllocError, Global};
 use value_store::ValueStore;
 

@@ -2,12 +2,14 @@
 
 ghost use Rattle.std.specs.Prelude.{◌≡◌, ◌<◌, ◌≤◌, ◌∷◌, [], length, map, option_map, slice_get, slice_index, vec_len, IfOk};
 ghost use Rattle.guest_memory.specs.Memory.{IsMemory};
-ghost use Rattle.policy_glue.specs.Verdict as decided;
+ghost use Rattle.policy_code.specs.Verdict as decided;
 ghost use Rattle.policy_glue.specs.Denials.{lent};
 ghost use Rattle.policy_glue.specs.Findings.{error_finding, false_finding, finding_at, finding_view, findings_by, findings_of, undecided_finding};
 ghost use Rattle.policy_glue.specs.FindingWords.{findings_in, findings_in_words, truth_in};
-ghost use Rattle.policy_glue.specs.Layout.{outcome_of, words_view, Encodes, IsLayout};
-ghost use Rattle.policy_glue.specs.Policy.{part_limit, validation_view};
+ghost use Rattle.policy_code.specs.Layout.{outcome_of, IsLayout};
+ghost use Rattle.policy_glue.specs.Layout.{words_view, Encodes};
+ghost use Rattle.policy_code.specs.Limits.{part_limit};
+ghost use Rattle.policy_glue.specs.Policy.{validation_view};
 
 use crate::failure_policy::FailurePolicy;
 use crate::finding::Finding;
@@ -17,8 +19,9 @@ use crate::parts::Parts;
 use crate::policy::Policy;
 use crate::reason::Reason;
 use crate::validation::Validation;
-use crate::verdict::{ERRS, FAILS, Verdict, word};
+use crate::verdict::{Verdict, word};
 use guest_memory::Regions;
+use policy_code::verdict_words::{ERRS, FAILS};
 use std::alloc::{AllocError, Global};
 use value_store::ValueStore;
 

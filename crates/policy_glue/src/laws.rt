@@ -6,13 +6,11 @@ ghost use Rattle.policy_glue.specs.FindingRows.{FindingRowsStand};
 ghost use Rattle.policy_glue.specs.LimitRows.{LimitRowsStand};
 ghost use Rattle.policy_glue.specs.NamingRows.{NamingRowsStand};
 ghost use Rattle.policy_glue.specs.OneAnswer.{CompileHasOneResult, HasNoOtherType, HasOneImage};
-ghost use Rattle.policy_glue.specs.ProgramLaws.{PolicyDecides};
-ghost use Rattle.policy_glue.specs.ProgramTrees.{ProgramDecides, ProgramIsCode, ProgramIsShort, ProgramStops};
 ghost use Rattle.policy_glue.specs.RejectionRows.{LayoutRowsStand, RejectionRowsStand};
 ghost use Rattle.policy_glue.specs.RunRows.{RunRowsStand};
 ghost use Rattle.policy_glue.specs.Rows.{PolicyRowsStand, VerdictRowsStand, ResponseRowsStand};
 
-use bpf_machine::laws::decodes_spelling;
+pub use policy_code::laws::{policy_decides, program_decides, program_is_code};
 
 /// Documents of policies, and the results of reading them.
 #[tactic(auto, unfolding(crate::proofs::OnLiterals::documents_on_literals))]
@@ -75,40 +73,11 @@ pub fn budget_rows_stand()
     ensures { BudgetRowsStand }
 {}
 
-/// The code of a policy, composed of the code of its expressions, leaves the policy's verdict in
-/// the verdict words and its outcome in R0, or stops for its charge or a depth, after its steps and
-/// those of its variables.
-pub fn policy_decides()
-    ensures { PolicyDecides }
-{
-    decodes_spelling();
-}
-
 /// Programs of policies run by hand.
 #[tactic(auto, unfolding(crate::proofs::OnLiterals::programs_on_literals))]
 pub fn run_rows_stand()
     ensures { RunRowsStand }
 {}
-
-/// The program of a policy has at most 128 slots for each of the policy's nodes, and can be
-/// encoded.
-#[tactic(auto, using(crate::proofs::Programs::Sizes::program_is_short, crate::proofs::Programs::Sizes::program_is_code))]
-pub fn program_is_code()
-    ensures short { ProgramIsShort }
-    ensures code { ProgramIsCode }
-{}
-
-/// The program of a policy, run from the start, has decided as the policy does after 128 steps for
-/// each unit of the policy's work, and also if it stopped earlier. Either it left the verdict, or
-/// it was stopped: because 16 of charge for each unit of the policy's cost pass the limit, or
-/// because a value is too deep.
-#[tactic(auto, using(crate::proofs::Programs::Runs::program_decides, crate::proofs::Programs::Sizes::program_is_code, crate::proofs::Programs::Runs::program_stops))]
-pub fn program_decides()
-    ensures decides { ProgramDecides }
-    ensures stops { ProgramStops }
-{
-    decodes_spelling();
-}
 
 /// Compilation of a policy has one result, its trees or its first refusal, and one image. No policy
 /// is refused for the type of an expression that has the required type.

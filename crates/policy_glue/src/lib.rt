@@ -2,8 +2,6 @@
 //! that programs leave, and the responses to them.
 #![tactic(auto)]
 
-mod checked;
-mod checked_validation;
 mod checking;
 mod compile_error;
 mod compiling;
@@ -12,7 +10,7 @@ mod denials;
 mod documents;
 mod escaping;
 mod expression_error;
-mod failure_policy;
+pub mod failure_policy;
 mod finding;
 mod finding_message;
 mod findings;
@@ -22,12 +20,11 @@ mod name_rule;
 mod named_expression;
 mod named_list;
 mod naming;
-mod outcome;
+pub mod outcome;
 mod part_kind;
 mod parts;
 mod policy;
 mod policy_error;
-mod program;
 mod reading;
 mod reason;
 mod rejecting;

@@ -9,7 +9,7 @@ ghost use Rattle.policy_glue.specs.Limits.{Compiles};
 ghost use Rattle.policy_glue.specs.Naming as specs;
 ghost use Rattle.policy_glue.specs.Naming.{conditions_name_namespace, EachReads};
 ghost use Rattle.policy_glue.specs.Policy.{named_view};
-ghost use Rattle.policy_glue.specs.Trees.{PolicyTree};
+ghost use Rattle.policy_code.specs.Trees.{PolicyTree};
 
 use crate::named_expression::NamedExpression;
 use crate::policy::Policy;

@@ -2,11 +2,12 @@
 
 ghost use Rattle.std.specs.Prelude.{◌≡◌, ◌≤◌, length, map, option_map, vec_len, IfOk};
 ghost use Rattle.guest_memory.specs.Memory.{IsMemory};
-ghost use Rattle.policy_glue.specs.Verdict as decided;
+ghost use Rattle.policy_code.specs.Verdict as decided;
 ghost use Rattle.policy_glue.specs.Denials.{denial_view, denials_in, denials_read};
-ghost use Rattle.policy_glue.specs.Layout.{outcome_of, words_view, Encodes, IsLayout};
+ghost use Rattle.policy_code.specs.Layout.{outcome_of, IsLayout};
+ghost use Rattle.policy_glue.specs.Layout.{words_view, Encodes};
 ghost use Rattle.policy_glue.specs.Rejections.{denied, rejection_by, rejection_of, rejection_view, undecided};
-ghost use Rattle.policy_glue.specs.Policy.{part_limit};
+ghost use Rattle.policy_code.specs.Limits.{part_limit};
 ghost use Rattle.policy_glue.specs.Response.{denials_of};
 
 use crate::denial::Denial;

@@ -2,7 +2,7 @@
 
 ghost use Rattle.std.specs.Prelude.{◌≡◌, ◌++◌, decimal, option_map, string_bytes, IfOk, None, Some};
 ghost use Rattle.json.specs.Print.{quoted};
-ghost use Rattle.policy_glue.specs.Verdict as decided;
+ghost use Rattle.policy_code.specs.Verdict as decided;
 ghost use Rattle.policy_glue.specs.Layout.{words_view, Encodes};
 ghost use Rattle.policy_glue.specs.Rejections.{rejection_view, response_text};
 ghost use Rattle.policy_glue.specs.Response.{response_of};

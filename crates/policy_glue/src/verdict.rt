@@ -2,38 +2,16 @@
 
 ghost use Rattle.std.specs.Prelude.{◌≡◌, ◌<◌, ◌≤◌, ◌*◌, ◌+◌, ℕ, length, map, option_map, slice_get, slice_index, Some};
 ghost use Rattle.guest_memory.specs.Memory.{IsMemory};
-ghost use Rattle.policy_glue.specs.Verdict as decided;
+ghost use Rattle.policy_code.specs.Verdict as decided;
 ghost use Rattle.policy_glue.specs.Denials.{lent};
-ghost use Rattle.policy_glue.specs.Layout.{message_at, result_at, text_named, verdict_word, words_view, AreRead, IsLayout, Encodes};
-ghost use Rattle.policy_glue.specs.Policy.{part_limit};
+ghost use Rattle.policy_glue.specs.Layout.{message_at, result_at, text_named, verdict_word, words_view, AreRead, Encodes};
+ghost use Rattle.policy_code.specs.Layout.{IsLayout};
+ghost use Rattle.policy_code.specs.Limits.{part_limit};
 
 use crate::policy::{PART_LIMIT, Policy};
 use guest_memory::{Regions, Size, VERDICT};
+use policy_code::verdict_words::{FIRST_MESSAGE, FIRST_RESULT};
 use value_store::ValueStore;
-
-/// The first of the words with the results of the validations.
-pub(crate) const FIRST_RESULT: u64 = 2;
-
-/// The first of the words with the references of the message texts.
-pub(crate) const FIRST_MESSAGE: u64 = 66;
-
-/// The outcome if a condition is false.
-pub(crate) const SKIPPED: u64 = 1;
-
-/// The outcome if a condition could not be decided, under `Fail`.
-pub(crate) const REJECTED: u64 = 2;
-
-/// The outcome if a validation denies.
-pub(crate) const DENIED: u64 = 3;
-
-/// The outcome if no validation denies.
-pub(crate) const ADMITTED: u64 = 4;
-
-/// The result word of a validation that is false.
-pub(crate) const FAILS: u64 = 1;
-
-/// The result word of a validation that is an error.
-pub(crate) const ERRS: u64 = 2;
 
 /// What a program decided, read from its verdict words.
 #[derive(Debug, Drop)]

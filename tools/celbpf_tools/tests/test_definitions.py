@@ -87,6 +87,21 @@ class Passed(unittest.TestCase):
             found = rests_on(files, "a/specs/One.antt", "top")
         self.assertEqual(found, {("Rattle.a.specs.One", "top"), ("Rattle.a.specs.Three", "low")})
 
+    def test_a_file_that_a_crate_passes_on(self) -> None:
+        texts = {
+            "a/specs/One": "use Rattle.b.specs.Two.{low}\n\npub top : ℕ\ntop = low\n",
+            "b/specs/Lib": "pub mod Other\npub use Rattle.c.specs.Two\n",
+            "c/specs/Two": "pub low : ℕ\nlow = 1\n",
+        }
+        with tempfile.TemporaryDirectory() as folder:
+            for name, text in texts.items():
+                path = Path(folder) / f"{name}.antt"
+                path.parent.mkdir(parents=True, exist_ok=True)
+                path.write_text(text)
+            files = {module.name: module for module in modules(Path(folder))}
+            found = rests_on(files, "a/specs/One.antt", "top")
+        self.assertEqual(found, {("Rattle.a.specs.One", "top"), ("Rattle.c.specs.Two", "low")})
+
 
 class DefinedTwice(unittest.TestCase):
     """Two files of two crates in a folder of their own."""
