@@ -1,7 +1,9 @@
 //! Definitions that the tests share.
 
+use policy_glue::{Policy, PolicyError};
 use serde_json::Value;
 use std::alloc::{AllocError, Global};
+use std::process::Abort;
 
 mod code;
 mod compiling;
@@ -10,13 +12,9 @@ mod errors;
 mod long_messages;
 mod naming;
 
-/// The concatenation of these texts.
-pub fn joined(alloc: Global, texts: &[&str]) -> Result<String, AllocError> {
-    let mut all = String::new(alloc);
-    for text in texts {
-        all.push_str(text)?;
-    }
-    Ok(all)
+/// Asserts that there is no first row that is wrong, which would have this name.
+pub fn assert_none(rt: &impl Abort, wrong: Result<Option<&str>, AllocError>) {
+    assert!(rt; matches!(wrong, Ok(None)), "row {wrong:?}");
 }
 
 /// The start of a policy, before its specification.
@@ -25,7 +23,12 @@ const HEAD: &str =
 
 /// The policy with this specification.
 pub fn policy_text(alloc: Global, spec: &str) -> Result<String, AllocError> {
-    joined(alloc, &[HEAD, spec, "}"])
+    [HEAD, spec, "}"].join(alloc, "")
+}
+
+/// The policy of this document.
+pub fn read_policy(alloc: Global, text: &str) -> Result<Policy, PolicyError> {
+    Policy::read(alloc, text.as_bytes())
 }
 
 /// Five null roots.

@@ -1,26 +1,36 @@
 //! Policies that are compiled, and why others are refused.
 
-use super::{cells, joined, policy_text};
-use policy_glue::{Policy, compile};
+use super::{assert_none, cells, policy_text, read_policy};
+use policy_glue::{CompileError, Policy, compile};
 use std::alloc::{AllocError, Global};
-use std::process::Abort;
-use std::test::Fail;
 
-/// The outcome for the policy with this specification: `compiled`, or its error.
-fn outcome(alloc: Global, spec: &str) -> Result<String, Fail> {
-    let text = policy_text(alloc, spec)?;
-    let policy = Policy::read(alloc, text.as_bytes())?;
-    match compile(alloc, &policy) {
-        Ok(_) => Ok(String::from_str(alloc, "compiled")?),
-        Err(error) => Ok(format!(in alloc; "{error}")?),
+/// The error of the policy, if it is not compiled.
+fn error_of(alloc: Global, policy: &Policy) -> Option<CompileError> {
+    compile(alloc, policy).err()
+}
+
+/// The outcome for a policy that is read: `compiled`, or its error.
+fn outcome(alloc: Global, policy: &Policy) -> Result<String, AllocError> {
+    match error_of(alloc, policy) {
+        Some(error) => format!(in alloc; "{error}"),
+        None => String::from_str(alloc, "compiled"),
     }
 }
 
-/// Asserts the outcome for the policy with this specification.
-fn assert_outcome(rt: &impl Abort, alloc: Global, spec: &str, want: &str) -> Result<(), Fail> {
-    let found = outcome(alloc, spec)?;
-    assert!(rt; found.as_str() == want, "{spec}");
-    Ok(())
+/// Whether a policy is read, and has this outcome.
+fn has_outcome(alloc: Global, policy: Option<Policy>, want: &str) -> Result<bool, AllocError> {
+    match policy {
+        Some(policy) => Ok(outcome(alloc, &policy)?.as_str() == want),
+        None => Ok(false),
+    }
+}
+
+/// Whether this is the outcome for the policy with this specification.
+fn comes_to(alloc: Global, spec: &str, want: &str) -> Result<bool, AllocError> {
+    let text = policy_text(alloc, spec)?;
+    let policy = read_policy(alloc, text.as_str()).ok();
+    drop(text);
+    has_outcome(alloc, policy, want)
 }
 
 /// The expression of a policy's only validation, and the outcome.
@@ -38,21 +48,24 @@ const EXPRESSIONS: [(&str, &str); 11] = [
     ("1 + 1", "K7"),
 ];
 
-/// Asserts the outcome for the policy with this validation.
-fn assert_validation(rt: &impl Abort, alloc: Global, text: &str, want: &str) -> Result<(), Fail> {
-    let spec = joined(
-        alloc,
-        &[r#"{"validations":[{"expression":""#, text, r#""}]}"#],
-    )?;
-    assert_outcome(rt, alloc, spec.as_str(), want)
+/// Whether this is the outcome for the policy with this validation.
+fn validation_comes_to(alloc: Global, text: &str, want: &str) -> Result<bool, AllocError> {
+    let spec = [r#"{"validations":[{"expression":""#, text, r#""}]}"#].join(alloc, "")?;
+    comes_to(alloc, spec.as_str(), want)
+}
+
+fn wrong_expression(alloc: Global) -> Result<Option<&'static str>, AllocError> {
+    for &(expression, want) in &EXPRESSIONS {
+        if !validation_comes_to(alloc, expression, want)? {
+            return Ok(Some(expression));
+        }
+    }
+    Ok(None)
 }
 
 #[test]
-fn expressions(rt: HostRuntime) -> Result<(), Fail> {
-    for (expression, want) in &EXPRESSIONS {
-        assert_validation(&rt, rt.alloc(), expression, want)?;
-    }
-    Ok(())
+fn expressions(rt: HostRuntime) {
+    assert_none(&rt, wrong_expression(rt.alloc()));
 }
 
 /// One row per line: a specification, a broken bar and the outcome. Each part is checked completely before the next,
@@ -69,44 +82,62 @@ const SPECS: &str =
 {"validations":[{"expression":"1","messageExpression":"'a"}]}¦K7
 {"validations":[{"expression":"true","messageExpression":"dyn(1)"}]}¦compiled"##;
 
-#[test]
-fn specifications(rt: HostRuntime) -> Result<(), Fail> {
+fn wrong_specification(alloc: Global) -> Result<Option<&'static str>, AllocError> {
     for line in SPECS.lines() {
         let (spec, want) = cells(line);
-        assert_outcome(&rt, rt.alloc(), spec, want)?;
+        if !comes_to(alloc, spec, want)? {
+            return Ok(Some(spec));
+        }
     }
-    Ok(())
-}
-
-/// A specification with this many variables, each of which refers to the one before it.
-fn chain(alloc: Global, n: u64) -> Result<String, AllocError> {
-    let mut spec = String::from_str(
-        alloc,
-        "{\"validations\":[{\"expression\":\"true\"}],\"variables\":[{\"name\":\"v0\",\"expression\":\"1\"}",
-    )?;
-    for i in 1..n {
-        let variable = format!(in alloc;
-            ",{{\"name\":\"v{}\",\"expression\":\"variables.v{}\"}}",
-            i,
-            i - 1
-        )?;
-        spec.push_str(variable.as_str())?;
-    }
-    spec.push_str("]}")?;
-    Ok(spec)
+    Ok(None)
 }
 
 #[test]
-fn variables_of_variables(rt: HostRuntime) -> Result<(), Fail> {
-    let shallow = chain(rt.alloc(), 6)?;
-    assert_outcome(&rt, rt.alloc(), shallow.as_str(), "compiled")?;
-    let deep = chain(rt.alloc(), 7)?;
-    assert_outcome(&rt, rt.alloc(), deep.as_str(), "K6 variable 6 G2")
+fn specifications(rt: HostRuntime) {
+    assert_none(&rt, wrong_specification(rt.alloc()));
 }
+
+/// A specification with these variables, after one that is 1.
+fn with_variables(alloc: Global, variables: &str) -> Result<String, AllocError> {
+    [
+        "{\"validations\":[{\"expression\":\"true\"}],\"variables\":[{\"name\":\"v0\",\"expression\":\"1\"}",
+        variables,
+        "]}",
+    ]
+    .join(alloc, "")
+}
+
+/// Variables, each of which refers to the one before it.
+const SIX: &str =
+    r#",{"name":"v1","expression":"variables.v0"},{"name":"v2","expression":"variables.v1"},{"name":"v3","expression":"variables.v2"},{"name":"v4","expression":"variables.v3"},{"name":"v5","expression":"variables.v4"}"#;
+
+const SEVEN: &str =
+    r#",{"name":"v1","expression":"variables.v0"},{"name":"v2","expression":"variables.v1"},{"name":"v3","expression":"variables.v2"},{"name":"v4","expression":"variables.v3"},{"name":"v5","expression":"variables.v4"},{"name":"v6","expression":"variables.v5"}"#;
+
+/// Whether this is the outcome for the policy with these variables.
+fn variables_come_to(alloc: Global, variables: &str, want: &str) -> Result<bool, AllocError> {
+    let spec = with_variables(alloc, variables)?;
+    comes_to(alloc, spec.as_str(), want)
+}
+
+#[test]
+fn variables_of_variables(rt: HostRuntime) {
+    assert!(rt; variables_come_to(rt.alloc(), SIX, "compiled") == Ok(true));
+    assert!(rt; variables_come_to(rt.alloc(), SEVEN, "K6 variable 6 G2") == Ok(true));
+}
+
+type Row = (
+    &'static str,
+    usize,
+    &'static str,
+    &'static str,
+    &'static str,
+    &'static str,
+);
 
 /// An expression in brackets or with operators, which are repeated on both sides of the text between
 /// them; its end; and the outcome for a policy with it.
-const REPEATED: [(&str, usize, &str, &str, &str, &str); 7] = [
+const REPEATED: [Row; 7] = [
     ("(", 100, "true", ")", "", "compiled"),
     ("(", 101, "true", ")", "", "K6 validation 0 P5 at 100"),
     ("1+(", 58, "1+1", ")", "==1", "compiled"),
@@ -116,51 +147,87 @@ const REPEATED: [(&str, usize, &str, &str, &str, &str); 7] = [
     ("!", 4096, "true", "", "", "K6 validation 0 P6 at 4096"),
 ];
 
-/// A text in brackets or with operators, which are repeated on both sides of it.
-fn around(
+/// A text between two others, if there was memory for those, and its end.
+fn between(
     alloc: Global,
-    before: &str,
-    n: usize,
-    middle: &str,
-    behind: &str,
+    before: Result<String, AllocError>,
+    [middle, end]: [&str; 2],
+    behind: Result<String, AllocError>,
 ) -> Result<String, AllocError> {
-    let mut text = before.repeat(alloc, n)?;
-    text.push_str(middle)?;
-    text.push_str(behind.repeat(alloc, n)?.as_str())?;
-    Ok(text)
+    let before = before?;
+    let behind = behind?;
+    [before.as_str(), middle, behind.as_str(), end].join(alloc, "")
+}
+
+/// Whether a row's expression has its outcome.
+fn is_as_told(alloc: Global, row: &Row) -> Result<bool, AllocError> {
+    let &(before, n, middle, behind, end, want) = row;
+    let expression = between(
+        alloc,
+        before.repeat(alloc, n),
+        [middle, end],
+        behind.repeat(alloc, n),
+    )?;
+    validation_comes_to(alloc, expression.as_str(), want)
+}
+
+/// The outcome of the first row that is wrong.
+fn wrong_repetition(alloc: Global) -> Result<Option<&'static str>, AllocError> {
+    for row in &REPEATED {
+        if !is_as_told(alloc, row)? {
+            return Ok(Some(row.5));
+        }
+    }
+    Ok(None)
 }
 
 #[test]
-fn limits_of_expressions(rt: HostRuntime) -> Result<(), Fail> {
-    for (before, n, middle, behind, end, want) in &REPEATED {
-        let mut expression = around(rt.alloc(), before, *n, middle, behind)?;
-        expression.push_str(end)?;
-        assert_validation(&rt, rt.alloc(), expression.as_str(), want)?;
-    }
-    Ok(())
+fn limits_of_expressions(rt: HostRuntime) {
+    assert_none(&rt, wrong_repetition(rt.alloc()));
 }
 
-/// A specification with this many validations, each with a unique text of 62,000 bytes:
+/// The digits before the letters of 17 texts.
+const NUMBERS: [&str; 17] = [
+    "00", "01", "02", "03", "04", "05", "06", "07", "08", "09", "10", "11", "12", "13", "14", "15",
+    "16",
+];
+
+/// Appends a validation with a text of its own: these digits and letters.
+fn push_validation(spec: &mut String, number: &str, letters: &str) -> Result<(), AllocError> {
+    spec.push_str("{\"expression\":\"'")?;
+    spec.push_str(number)?;
+    spec.push_str(letters)?;
+    spec.push_str("' == 'a'\"}")
+}
+
+/// Appends a validation for each of these numbers, with commas between them.
+fn push_validations(spec: &mut String, numbers: &[&str], letters: &str) -> Result<(), AllocError> {
+    let mut comma = "";
+    for number in numbers {
+        spec.push_str(comma)?;
+        push_validation(spec, number, letters)?;
+        comma = ",";
+    }
+    spec.push_str("]}")
+}
+
+/// A specification with a validation for each of these numbers, with a unique text of 62,000 bytes:
 /// its number in two digits, then letters.
-fn with_texts(alloc: Global, n: u64) -> Result<String, AllocError> {
+fn with_texts(alloc: Global, numbers: &[&str]) -> Result<String, AllocError> {
     let letters = "a".repeat(alloc, 61_998)?;
     let mut spec = String::from_str(alloc, "{\"validations\":[")?;
-    for i in 0..n {
-        let comma = if i == 0 { "" } else { "," };
-        let validation = format!(in alloc;
-            "{comma}{{\"expression\":\"'{:02}{letters}' == 'a'\"}}",
-            i
-        )?;
-        spec.push_str(validation.as_str())?;
-    }
-    spec.push_str("]}")?;
+    push_validations(&mut spec, numbers, letters.as_str())?;
     Ok(spec)
 }
 
+/// Whether this is the outcome for the policy with so many texts.
+fn texts_come_to(alloc: Global, numbers: &[&str], want: &str) -> Result<bool, AllocError> {
+    let spec = with_texts(alloc, numbers)?;
+    comes_to(alloc, spec.as_str(), want)
+}
+
 #[test]
-fn texts_of_policies(rt: HostRuntime) -> Result<(), Fail> {
-    let most = with_texts(rt.alloc(), 16)?;
-    assert_outcome(&rt, rt.alloc(), most.as_str(), "compiled")?;
-    let more = with_texts(rt.alloc(), 17)?;
-    assert_outcome(&rt, rt.alloc(), more.as_str(), "G4")
+fn texts_of_policies(rt: HostRuntime) {
+    assert!(rt; texts_come_to(rt.alloc(), &NUMBERS[..16], "compiled") == Ok(true));
+    assert!(rt; texts_come_to(rt.alloc(), &NUMBERS, "G4") == Ok(true));
 }

@@ -1,34 +1,26 @@
 //! Policies that are read, and why others are refused.
 
-use super::{cells, joined, policy_text};
-use policy_glue::{Policy, PolicyError};
+use super::{assert_none, cells, policy_text, read_policy};
+use policy_glue::PolicyError;
 use std::alloc::{AllocError, Global};
-use std::process::Abort;
-use std::test::Fail;
 
 /// The error of the document, if it is refused.
 fn refusal(alloc: Global, text: &str) -> Option<PolicyError> {
-    Policy::read(alloc, text.as_bytes()).err()
+    read_policy(alloc, text).err()
 }
 
 /// The code of the document's error; empty if it is read.
-fn named(alloc: Global, text: &str) -> Result<String, AllocError> {
+fn named(alloc: Global, text: &str) -> &'static str {
     match refusal(alloc, text) {
-        Some(error) => format!(in alloc; "{}", error.code()),
-        None => Ok(String::new(alloc)),
+        Some(error) => error.code(),
+        None => "",
     }
 }
 
-/// Asserts the error of the policy with this specification.
-fn assert_refusal(
-    rt: &impl Abort,
-    alloc: Global,
-    spec: &str,
-    want: &str,
-) -> Result<(), AllocError> {
+/// The code of the error of the policy with this specification; empty if it is read.
+fn spec_named(alloc: Global, spec: &str) -> Result<&'static str, AllocError> {
     let text = policy_text(alloc, spec)?;
-    assert!(rt; named(alloc, text.as_str())?.as_str() == want, "{spec}");
-    Ok(())
+    Ok(named(alloc, text.as_str()))
 }
 
 /// One row per line: a specification, a broken bar and its error code, which is empty if there is none.
@@ -67,18 +59,36 @@ const ENDS: &str = r#"}]}¦
 }],"variables":[{"name":"a b","expression":"a"}]}¦K3
 }],"variables":[{"name":"v","expression":"a"},{"name":"w","expression":"a"},{"name":"v","expression":"b"}]}¦K3"#;
 
-#[test]
-fn specifications(rt: HostRuntime) -> Result<(), Fail> {
+fn wrong_specification(alloc: Global) -> Result<Option<&'static str>, AllocError> {
     for line in SPECS.lines() {
         let (spec, want) = cells(line);
-        assert_refusal(&rt, rt.alloc(), spec, want)?;
+        if spec_named(alloc, spec)? != want {
+            return Ok(Some(spec));
+        }
     }
+    Ok(None)
+}
+
+/// The code of the error of the policy whose specification ends so; empty if it is read.
+fn end_named(alloc: Global, end: &str) -> Result<&'static str, AllocError> {
+    let spec = [r#"{"validations":[{"expression":"a""#, end].join(alloc, "")?;
+    spec_named(alloc, spec.as_str())
+}
+
+fn wrong_end(alloc: Global) -> Result<Option<&'static str>, AllocError> {
     for line in ENDS.lines() {
         let (end, want) = cells(line);
-        let spec = joined(rt.alloc(), &[r#"{"validations":[{"expression":"a""#, end])?;
-        assert_refusal(&rt, rt.alloc(), spec.as_str(), want)?;
+        if end_named(alloc, end)? != want {
+            return Ok(Some(end));
+        }
     }
-    Ok(())
+    Ok(None)
+}
+
+#[test]
+fn specifications(rt: HostRuntime) {
+    assert_none(&rt, wrong_specification(rt.alloc()));
+    assert_none(&rt, wrong_end(rt.alloc()));
 }
 
 /// Rows like those of `SPECS`, with documents.
@@ -89,25 +99,40 @@ const DOCUMENTS: &str = r#"{¦K1
 {"apiVersion":"v1","kind":"ValidatingAdmissionPolicy","spec":1,"x":1}¦K2
 {"apiVersion":"admissionregistration.k8s.io/v1","kind":"ValidatingAdmissionPolicy","metadata":null}¦K3"#;
 
-#[test]
-fn documents(rt: HostRuntime) -> Result<(), Fail> {
+fn wrong_document(alloc: Global) -> Option<&'static str> {
     for line in DOCUMENTS.lines() {
         let (text, want) = cells(line);
-        assert!(rt; named(rt.alloc(), text)?.as_str() == want, "{text}");
+        if named(alloc, text) != want {
+            return Some(text);
+        }
     }
-    Ok(())
-}
-
-/// The error for this many nested lists, if they are refused.
-fn refusal_of_nested(alloc: Global, n: usize) -> Result<Option<PolicyError>, AllocError> {
-    let mut text = "[".repeat(alloc, n)?;
-    text.push_str("]".repeat(alloc, n)?.as_str())?;
-    Ok(refusal(alloc, text.as_str()))
+    None
 }
 
 #[test]
-fn nested_documents(rt: HostRuntime) -> Result<(), Fail> {
-    assert!(rt; refusal_of_nested(rt.alloc(), 127)? == Some(PolicyError::NotAPolicy));
-    assert!(rt; refusal_of_nested(rt.alloc(), 200)? == Some(PolicyError::NotJson));
-    Ok(())
+fn documents(rt: HostRuntime) {
+    assert_none(&rt, Ok(wrong_document(rt.alloc())));
+}
+
+/// A text, then another, if there was memory for both.
+fn joined(
+    alloc: Global,
+    first: Result<String, AllocError>,
+    second: Result<String, AllocError>,
+) -> Result<String, AllocError> {
+    let first = first?;
+    let second = second?;
+    [first.as_str(), second.as_str()].join(alloc, "")
+}
+
+/// The code of the error for this many nested lists; empty if they are read.
+fn nested_named(alloc: Global, n: usize) -> Result<&'static str, AllocError> {
+    let text = joined(alloc, "[".repeat(alloc, n), "]".repeat(alloc, n))?;
+    Ok(named(alloc, text.as_str()))
+}
+
+#[test]
+fn nested_documents(rt: HostRuntime) {
+    assert!(rt; nested_named(rt.alloc(), 127) == Ok("K2"));
+    assert!(rt; nested_named(rt.alloc(), 200) == Ok("K1"));
 }

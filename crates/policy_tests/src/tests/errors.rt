@@ -1,5 +1,6 @@
 //! Codes and messages of errors.
 
+use super::assert_none;
 use CodeError::{NeedsTooManyWords, TooManyNodes, TooManyTextBytes, VariableTooDeep};
 use PolicyError::{
     InvalidField, MessageWithLineBreak, NoValidations, NotAPolicy, NotJson, TooManyParts,
@@ -8,7 +9,6 @@ use codegen::CodeError;
 use policy_glue::PolicyError;
 use std::alloc::{AllocError, Global};
 use std::fmt::Display;
-use std::test::Fail;
 
 /// Whether the error has this message.
 fn has_words<E: Display>(alloc: Global, error: &E, words: &str) -> Result<bool, AllocError> {
@@ -37,15 +37,27 @@ const POLICY_ERRORS: [(PolicyError, &str, &str); 7] = [
     (PolicyError::Memory, "memory", "out of memory"),
 ];
 
-#[test]
-fn errors_have_codes_and_words(rt: HostRuntime) -> Result<(), Fail> {
+/// The code of the first of these errors that is wrong.
+fn wrong_code_error(alloc: Global) -> Result<Option<&'static str>, AllocError> {
     for (error, code, words) in &CODE_ERRORS {
-        let has_code = error.code() == *code;
-        assert!(rt; has_code && has_words(rt.alloc(), error, words)?, "{code}");
+        if error.code() != *code || !has_words(alloc, error, words)? {
+            return Ok(Some(*code));
+        }
     }
+    Ok(None)
+}
+
+fn wrong_policy_error(alloc: Global) -> Result<Option<&'static str>, AllocError> {
     for (error, code, words) in &POLICY_ERRORS {
-        let has_code = error.code() == *code;
-        assert!(rt; has_code && has_words(rt.alloc(), error, words)?, "{code}");
+        if error.code() != *code || !has_words(alloc, error, words)? {
+            return Ok(Some(*code));
+        }
     }
-    Ok(())
+    Ok(None)
+}
+
+#[test]
+fn errors_have_codes_and_words(rt: HostRuntime) {
+    assert_none(&rt, wrong_code_error(rt.alloc()));
+    assert_none(&rt, wrong_policy_error(rt.alloc()));
 }

@@ -1,7 +1,7 @@
 //! Variables, and expressions that use them, as programs that run on five null roots or on an object.
 
 use super::running::{end, slots, take, take_variable};
-use crate::tests::nulls;
+use crate::tests::{assert_none, nulls};
 use bpf_machine::Status;
 use cel_types::Scope;
 use codegen::Emitter;
@@ -57,38 +57,54 @@ fn take_variables(alloc: Global, scope: &mut Scope, emitter: &mut Emitter) -> bo
 /// The end of the program of the text's expression, with the variables.
 fn end_with_variables(alloc: Global, text: &str) -> Option<Status> {
     let mut emitter = Emitter::new(alloc);
-    let mut scope = Scope::new(alloc);
-    if !take_variables(alloc, &mut scope, &mut emitter)
-        || !take(alloc, text, &scope, &mut emitter)
-    {
-        return None;
+    if take_with_variables(alloc, text, &mut emitter) {
+        end(alloc, emitter, &nulls(), STEPS)
+    } else {
+        None
     }
-    end(alloc, emitter, &nulls(), STEPS)
 }
 
-/// An object with ten thousand items.
-fn object_of_items(alloc: Global) -> Option<Value> {
-    let mut text = String::from_str(alloc, "{\"items\":[1").ok()?;
+/// Compiles the variables and the text's expression, and returns whether that succeeded.
+fn take_with_variables(alloc: Global, text: &str, emitter: &mut Emitter) -> bool {
+    let mut scope = Scope::new(alloc);
+    take_variables(alloc, &mut scope, emitter) && take(alloc, text, &scope, emitter)
+}
+
+/// The text of an object with ten thousand items.
+fn text_of_items(alloc: Global) -> Option<String> {
     let twos = ",2".repeat(alloc, 9_999).ok()?;
-    text.push_str(twos.as_str()).ok()?;
-    text.push_str("]}").ok()?;
+    ["{\"items\":[1", twos.as_str(), "]}"].join(alloc, "").ok()
+}
+
+/// That object.
+fn object_of_items(alloc: Global) -> Option<Value> {
+    let text = text_of_items(alloc)?;
     Value::from_str(alloc, text.as_str()).ok()
 }
 
 /// An emitter with only the text's expression.
 fn emitter_of(alloc: Global, text: &str) -> Option<Emitter> {
     let mut emitter = Emitter::new(alloc);
-    if take(alloc, text, &Scope::new(alloc), &mut emitter) {
+    if take_alone(alloc, text, &mut emitter) {
         Some(emitter)
     } else {
         None
     }
 }
 
+/// Compiles the text's expression without variables, and returns whether that succeeded.
+fn take_alone(alloc: Global, text: &str, emitter: &mut Emitter) -> bool {
+    let scope = Scope::new(alloc);
+    take(alloc, text, &scope, emitter)
+}
+
 /// The end of the program of the text's expression on this object, within this many steps.
 fn end_on(alloc: Global, object: Value, text: &str, steps: u64) -> Option<Status> {
     let roots = [object, Value::Null, Value::Null, Value::Null, Value::Null];
-    end(alloc, emitter_of(alloc, text)?, &roots, steps)
+    match emitter_of(alloc, text) {
+        Some(emitter) => end(alloc, emitter, &roots, steps),
+        None => None,
+    }
 }
 
 /// The end of the search for the first of many items.
@@ -108,23 +124,41 @@ fn slots_of(alloc: Global, text: &str) -> Option<usize> {
     slots(emitter_of(alloc, text)?)
 }
 
+/// The first of the texts whose program exits with something else.
+fn wrong_use(alloc: Global) -> Option<&'static str> {
+    for &(text, reference) in &USES {
+        if end_with_variables(alloc, text) != Some(Status::Exited(reference)) {
+            return Some(text);
+        }
+    }
+    None
+}
+
 #[test]
 fn variables_leave_their_values(rt: HostRuntime) {
-    for (text, reference) in &USES {
-        let found = end_with_variables(rt.alloc(), text);
-        assert!(rt; found == Some(Status::Exited(*reference)), "row {text}");
+    assert_none(&rt, Ok(wrong_use(rt.alloc())));
+}
+
+/// Whether a row's program has its slots, and exits after its steps, but not before.
+fn is_kept(alloc: Global, row: &(&str, usize, u64, u64)) -> bool {
+    let &(text, slots, steps, reference) = row;
+    slots_of(alloc, text) == Some(slots)
+        && end_on_fields(alloc, text, steps.wrapping_sub(1)) == Some(Status::Running)
+        && end_on_fields(alloc, text, steps) == Some(Status::Exited(reference))
+}
+
+fn wrong_field(alloc: Global) -> Option<&'static str> {
+    for row in &KEPT {
+        if !is_kept(alloc, row) {
+            return Some(row.0);
+        }
     }
+    None
 }
 
 #[test]
 fn a_field_that_is_kept_is_walked_once(rt: HostRuntime) {
-    for (text, slots, steps, reference) in &KEPT {
-        let before = end_on_fields(rt.alloc(), text, steps - 1);
-        let behind = end_on_fields(rt.alloc(), text, *steps);
-        assert!(rt; slots_of(rt.alloc(), text) == Some(*slots), "row {text}");
-        assert!(rt; before == Some(Status::Running), "row {text}");
-        assert!(rt; behind == Some(Status::Exited(*reference)), "row {text}");
-    }
+    assert_none(&rt, Ok(wrong_field(rt.alloc())));
 }
 
 #[test]

@@ -5,7 +5,7 @@ use cel_macros::Core;
 use cel_reader::Literal;
 use cel_types::{CelType, Scope};
 use codegen::{CodeError, Emitter};
-use std::alloc::Global;
+use std::alloc::{AllocError, Global};
 
 /// What a call answers if it refuses nothing.
 const TAKEN: &str = "taken";
@@ -22,36 +22,52 @@ fn told(refused: Option<CodeError>) -> &'static str {
 /// is evaluated, so `1+1` needs 2 words, and each repetition 1 more. There are 60.
 const SUMS: [(usize, &str); 2] = [(58, TAKEN), (59, "G1")];
 
+/// The text of these sums, if there was memory for what is repeated.
+fn text_of_sums(
+    alloc: Global,
+    before: Result<String, AllocError>,
+    behind: Result<String, AllocError>,
+) -> Option<String> {
+    let before = before.ok()?;
+    let behind = behind.ok()?;
+    [before.as_str(), "1+1", behind.as_str()]
+        .join(alloc, "")
+        .ok()
+}
+
 /// The expression of these sums.
 fn sums(alloc: Global, n: usize) -> Option<Core> {
-    let before = "1+(".repeat(alloc, n).ok()?;
-    let behind = ")".repeat(alloc, n).ok()?;
-    let text = format!(in alloc; "{before}1+1{behind}").ok()?;
+    let text = text_of_sums(alloc, "1+(".repeat(alloc, n), ")".repeat(alloc, n))?;
     core(alloc, text.as_str())
 }
 
-/// The outcome for this many sums as an expression.
-fn expression_outcome(alloc: Global, n: usize) -> Option<&'static str> {
-    let core = sums(alloc, n)?;
+/// The outcome for an expression without variables.
+fn outcome(alloc: Global, core: &Core) -> &'static str {
     let mut emitter = Emitter::new(alloc);
-    Some(told(refusal(alloc, &core, &Scope::new(alloc), &mut emitter)))
+    let scope = Scope::new(alloc);
+    told(refusal(alloc, core, &scope, &mut emitter))
 }
 
-/// The outcome for this many sums as a variable.
-fn variable_outcome(alloc: Global, n: usize) -> Option<&'static str> {
-    let core = sums(alloc, n)?;
+/// The outcome for an expression as a variable.
+fn outcome_as_variable(alloc: Global, core: &Core, scope: &Scope) -> &'static str {
     let mut emitter = Emitter::new(alloc);
-    Some(told(variable_refusal(alloc, &core, &Scope::new(alloc), &mut emitter)))
+    told(variable_refusal(alloc, core, scope, &mut emitter))
+}
+
+/// The outcomes for this many sums as an expression and as a variable.
+fn outcomes(alloc: Global, n: usize) -> Option<(&'static str, &'static str)> {
+    let core = sums(alloc, n)?;
+    let scope = Scope::new(alloc);
+    Some((
+        outcome(alloc, &core),
+        outcome_as_variable(alloc, &core, &scope),
+    ))
 }
 
 #[test]
 fn sums_need_words(rt: HostRuntime) {
-    for (n, want) in &SUMS {
-        assert!(rt;
-            expression_outcome(rt.alloc(), *n) == Some(*want),
-            "{n} sums"
-        );
-        assert!(rt; variable_outcome(rt.alloc(), *n) == Some(*want), "{n} sums");
+    for &(n, want) in &SUMS {
+        assert!(rt; outcomes(rt.alloc(), n) == Some((want, want)), "{n} sums");
     }
 }
 
@@ -63,13 +79,23 @@ const DEPTHS: [(&str, u64, &str); 3] = [
     ("1", 6, TAKEN),
 ];
 
-/// The outcome for a text as a variable, after the variable `v` of this depth.
-fn depth_outcome(alloc: Global, text: &str, depth: u64) -> Option<&'static str> {
-    let core = core(alloc, text)?;
+/// The scope with the variable `v` of this depth.
+fn scope_of(alloc: Global, depth: u64) -> Option<Scope> {
     let mut scope = Scope::new(alloc);
     scope.add("v", CelType::Int, depth).ok()?;
-    let mut emitter = Emitter::new(alloc);
-    Some(told(variable_refusal(alloc, &core, &scope, &mut emitter)))
+    Some(scope)
+}
+
+/// The outcome for an expression as a variable in a scope, if both were made.
+fn outcome_in(alloc: Global, core: Option<Core>, scope: Option<Scope>) -> Option<&'static str> {
+    let core = core?;
+    let scope = scope?;
+    Some(outcome_as_variable(alloc, &core, &scope))
+}
+
+/// The outcome for a text as a variable, after the variable `v` of this depth.
+fn depth_outcome(alloc: Global, text: &str, depth: u64) -> Option<&'static str> {
+    outcome_in(alloc, core(alloc, text), scope_of(alloc, depth))
 }
 
 #[test]
@@ -96,14 +122,26 @@ fn literal(alloc: Global, bytes: usize) -> Option<Core> {
     Some(Core::Literal(Literal::Text(text)))
 }
 
+/// Compiles an expression without variables, and returns whether that succeeded.
+fn take_core(alloc: Global, core: &Core, emitter: &mut Emitter) -> bool {
+    let scope = Scope::new(alloc);
+    refusal(alloc, core, &scope, emitter).is_none()
+}
+
+/// The outcome of `finish`.
+fn finished(emitter: Emitter) -> &'static str {
+    told(emitter.finish().err())
+}
+
 /// The outcome of `finish` for a text of this many bytes after this many nodes.
 fn ending(alloc: Global, nodes: u64, bytes: usize) -> Option<&'static str> {
     let core = literal(alloc, bytes)?;
     let mut emitter = Emitter::new(alloc);
     emitter.count(nodes);
-    match refusal(alloc, &core, &Scope::new(alloc), &mut emitter) {
-        Some(_) => None,
-        None => Some(told(emitter.finish().err())),
+    if take_core(alloc, &core, &mut emitter) {
+        Some(finished(emitter))
+    } else {
+        None
     }
 }
 

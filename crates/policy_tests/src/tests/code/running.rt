@@ -102,6 +102,28 @@ fn image(emitter: Emitter) -> Option<Image> {
     Image::new_2(code, constants).ok()
 }
 
+/// The table of these roots.
+fn values(alloc: Global, roots: &[Value; 5]) -> Option<PlainTable> {
+    PlainTable::of_roots(alloc, roots).ok()
+}
+
+/// The machine at the start of this image with these values, if both were made.
+fn started(
+    alloc: Global,
+    image: Option<Image>,
+    values: Option<PlainTable>,
+) -> Option<Machine<PlainTable, Guest>> {
+    let image = image?;
+    let values = values?;
+    Machine::start(alloc, image, values).ok()
+}
+
+/// The status after a run within this many steps.
+fn status_of(machine: &mut Machine<PlainTable, Guest>, steps: u64) -> Option<Status> {
+    let (_, status) = machine.run(steps).ok()?;
+    Some(status)
+}
+
 /// The end of the emitter's program on these roots, within this many steps.
 pub(super) fn end(
     alloc: Global,
@@ -109,12 +131,6 @@ pub(super) fn end(
     roots: &[Value; 5],
     steps: u64,
 ) -> Option<Status> {
-    let values = PlainTable::of_roots(alloc, roots).ok()?;
-    let mut machine: Machine<PlainTable, Guest> = Machine::start(
-        alloc,
-        image(emitter)?,
-        values,
-    ).ok()?;
-    let (_, status) = machine.run(steps).ok()?;
-    Some(status)
+    let mut machine = started(alloc, image(emitter), values(alloc, roots))?;
+    status_of(&mut machine, steps)
 }
