@@ -3,7 +3,7 @@
 use admission_match::Scope;
 
 /// The resources that a rule applies to (Rule).
-#[derive(Debug, Drop)]
+#[derive(Drop)]
 pub(crate) struct ResourcePatterns {
     pub scope: Scope,
     pub api_groups: Vec<String>,

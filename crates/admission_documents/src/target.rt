@@ -10,7 +10,7 @@ use admission_match::GroupVersionResource;
 use serde_json::Value;
 
 /// The kind, resource and subresource of a request.
-#[derive(Clone, Copy, Debug, Drop)]
+#[derive(Clone, Copy, Drop)]
 pub(crate) struct Target<'a> {
     pub kind: GroupVersionKind<'a>,
     pub resource: GroupVersionResource<'a>,

@@ -7,6 +7,7 @@ mod cluster_refusal;
 mod denial;
 mod events;
 pub mod laws;
+mod members;
 mod messages;
 mod names;
 mod responding;

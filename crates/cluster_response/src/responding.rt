@@ -1,23 +1,24 @@
 //! The response by the events of a dispatch.
-ghost use Rattle.std.specs.Prelude.{◌≡◌, [], IfOk, List, OnOk, map, option_map, string_bytes};
+ghost use Rattle.std.specs.Prelude.{◌≡◌, [], IfOk, List, map, option_map, string_bytes};
 ghost use Rattle.serde_json.specs.Data as json;
-ghost use Rattle.serde_json.specs.View.{members_view, view};
+ghost use Rattle.serde_json.specs.View.{view};
 ghost use Rattle.admission_documents.specs.Requests.{request_view};
 ghost use Rattle.policy_glue.specs.Response.{review_tree, status_tree};
 ghost use Rattle.cluster_response.specs.Events.{Event, KeepsEvents, audit_view, denial_view, events_view, summary_of, undecided_view};
-ghost use Rattle.cluster_response.specs.Members.{put_if};
+ghost use Rattle.cluster_response.specs.Members.{status_object};
 ghost use Rattle.cluster_response.specs.Response.{annotations_tree, answer_tree, cluster_response, decision_from, decision_tree, denial_status, if_texts, not_found_status, status_of, summary_response, texts_tree, undecided_tree};
 
 use crate::annotation::annotation_text;
 use crate::audit::Audit;
 use crate::denial::Denial;
 use crate::events::Events;
+use crate::members::{no_members, object, with_flag, with_member, with_number, with_text};
 use crate::messages::denied_message;
 use crate::undecided::Undecided;
 use admission_documents::Request;
 use cluster_plan::absent_text;
 use policy_glue::{Reason, response_text};
-use serde_json::{Map, Value, json, put};
+use serde_json::{Value, json};
 use std::alloc::{AllocError, Global};
 
 /// The text of the answer to a request with this uid, by the events of its dispatch: the response
@@ -112,8 +113,7 @@ fn not_found_status(alloc: Global, namespace: &str) -> Result<Value, AllocError>
     ensures { IfOk result (λ v. view v ≡ not_found_status namespace.now) }
 {
     let message = absent_text(alloc, namespace)?;
-    let text = message.as_str();
-    json!(in alloc; {"code": 404u64, "message": text, "reason": "NotFound"})
+    status_object(alloc, 404, message.as_str(), "NotFound")
 }
 
 fn denial_status(alloc: Global, request: &Request<'_>, denial: &Denial) -> Result<Value, AllocError>
@@ -126,17 +126,29 @@ fn denial_status(alloc: Global, request: &Request<'_>, denial: &Denial) -> Resul
 fn status(alloc: Global, text: &str, reason: Reason) -> Result<Value, AllocError>
     ensures { IfOk result (λ v. view v ≡ status_tree text.now reason) }
 {
-    let name = reason.name();
-    let code = reason.code();
-    json!(in alloc; {"code": code, "message": text, "reason": name})
+    status_object(alloc, reason.code(), text, reason.name())
+}
+
+/// The status with this code, message and reason.
+fn status_object(alloc: Global, code: u64, text: &str, reason: &str) -> Result<Value, AllocError>
+    ensures { IfOk result (λ v. view v ≡ status_object code text.now reason.now) }
+{
+    let coded = with_number(alloc, no_members(alloc), "code", code);
+    let told = with_text(alloc, coded, "message", text);
+    object(with_text(alloc, told, "reason", reason))
 }
 
 fn undecided_value(alloc: Global, undecided: &Undecided, uid: &str) -> Result<Value, AllocError>
     ensures { IfOk result (λ v. view v ≡ undecided_tree (undecided_view undecided.now) uid.now) }
 {
-    let policy = undecided.policy.as_str();
-    let code = undecided.refusal.code();
-    json!(in alloc; {"policy": policy, "refused": code, "uid": uid})
+    let named = with_text(
+        alloc,
+        no_members(alloc),
+        "policy",
+        undecided.policy.as_str(),
+    );
+    let refused = with_text(alloc, named, "refused", undecided.refusal.code());
+    object(with_text(alloc, refused, "uid", uid))
 }
 
 /// The review with the decision.
@@ -168,8 +180,8 @@ fn annotation(alloc: Global, audit: &Audit) -> Result<Value, AllocError>
     ensures { IfOk result (λ v. view v ≡ annotations_tree (audit_view audit.now)) }
 {
     let value = annotation_text(alloc, audit)?;
-    let text = value.as_str();
-    json!(in alloc; {"validation.policy.admission.k8s.io/validation_failure": text})
+    let name = "validation.policy.admission.k8s.io/validation_failure";
+    object(with_text(alloc, no_members(alloc), name, value.as_str()))
 }
 
 fn if_texts(alloc: Global, texts: &[String]) -> Result<Option<Value>, AllocError>
@@ -214,35 +226,23 @@ fn decision(
     ensures { IfOk result (λ v. view v
         ≡ decision_from (option_map view annotations) (option_map view status) uid.now (option_map view warnings)) }
 {
-    let allowed = status.is_none();
-    let uid = json!(in alloc; uid)?;
-    let mut members = Map::new(alloc);
-    put(&mut members, alloc, "allowed", Value::Bool(allowed))?;
-    put_if(&mut members, alloc, "auditAnnotations", annotations)?;
-    put_if(&mut members, alloc, "status", status)?;
-    put(&mut members, alloc, "uid", uid)?;
-    put_if(&mut members, alloc, "warnings", warnings)?;
-    Ok(Value::Object(members))
-}
-
-fn put_if(
-    members: &mut Map<String, Value>,
-    alloc: Global,
-    name: &str,
-    value: Option<Value>,
-) -> Result<(), AllocError>
-    ensures { OnOk result (members_view members.new.entries
-        ≡ put_if name.now (option_map view value) (members_view members.old.entries)) }
-{
-    match value {
-        Some(value) => put(members, alloc, name, value),
-        None => Ok(()),
-    }
+    let decided = with_flag(alloc, no_members(alloc), "allowed", status.is_none());
+    let annotated = with_member(alloc, decided, "auditAnnotations", annotations);
+    let told = with_member(alloc, annotated, "status", status);
+    let named = with_text(alloc, told, "uid", uid);
+    object(with_member(alloc, named, "warnings", warnings))
 }
 
 #[tactic(auto, unfolding(policy_glue::specs::Response::review_tree))]
 fn review(alloc: Global, response: Value) -> Result<Value, AllocError>
     ensures { IfOk result (λ v. view v ≡ review_tree (view response)) }
 {
-    json!(in alloc; {"apiVersion": "admission.k8s.io/v1", "kind": "AdmissionReview", "response": response})
+    let versioned = with_text(
+        alloc,
+        no_members(alloc),
+        "apiVersion",
+        "admission.k8s.io/v1",
+    );
+    let named = with_text(alloc, versioned, "kind", "AdmissionReview");
+    object(with_member(alloc, named, "response", Some(response)))
 }

@@ -8,6 +8,8 @@ pub mod Adding
 pub mod Held
 pub mod Parts
 pub mod Whole
+pub mod Appended
+pub mod Turns
 pub mod OnLiterals
 pub mod Orders
 pub mod Reordered

@@ -8,6 +8,7 @@ pub mod Objects
 pub mod Params
 pub mod Parts
 pub mod Policies
+pub mod Reading
 pub mod Refusals
 pub mod Rows
 pub mod State

@@ -30,6 +30,7 @@ mod state;
 mod state_error;
 mod state_items;
 mod state_objects;
+mod together;
 
 pub use action::Action;
 pub use binding::Binding;

@@ -1,11 +1,12 @@
 //! Reads the parts of a state.
 ghost use Rattle.std.specs.Prelude.{◌≡◌, List, map, IfOk};
 ghost use Rattle.serde_json.specs.View.{view};
-ghost use Rattle.cluster_state.specs.Bindings.{binding_view, bindings_in};
+ghost use Rattle.cluster_state.specs.Bindings.{binding_in, binding_view, bindings_in};
 ghost use Rattle.cluster_state.specs.Items.{item_view};
 ghost use Rattle.cluster_state.specs.Names.{HoldsPolicyNames};
 ghost use Rattle.cluster_state.specs.Objects.{no_objects, objects_view, named_view, with_items};
-ghost use Rattle.cluster_state.specs.Policies.{is_bound, policies_in, policy_view};
+ghost use Rattle.cluster_state.specs.Policies.{is_bound, policies_in, policy_in, policy_view};
+ghost use Rattle.cluster_state.specs.Reading.{or_invalid_binding, or_invalid_policy};
 ghost use Rattle.cluster_state.specs.Refusals.{ReadsDue};
 ghost use Rattle.cluster_state.specs.declared.binding.Binding.{Binding as CodeBinding};
 ghost use Rattle.cluster_state.specs.State as specs;
@@ -17,6 +18,7 @@ use crate::item::Item;
 use crate::objects::Objects;
 use crate::policy::Policy;
 use crate::state_error::StateError;
+use crate::together::appended;
 use admission_documents::FieldError;
 use serde_json::Value;
 use std::alloc::{AllocError, Global};
@@ -66,16 +68,23 @@ fn bindings_in<'a>(
 {
     let mut bindings = Vec::new(alloc);
     for (name, document) in named.iter() {
-        match Binding::read(alloc, name, document) {
-            Ok(binding) => bindings.push(binding)?,
-            Err(BindingError::Memory) => return Err(StateError::Memory),
-            Err(BindingError::InvalidPart(part)) => {
-                let name = String::from_str(alloc, name)?;
-                return Err(StateError::InvalidBinding(name, part));
-            }
-        }
+        bindings = appended(bindings, binding(alloc, name, document))?;
     }
     Ok(bindings)
+}
+
+/// The binding with this name, or the refusal of the state because of it.
+fn binding<'a>(alloc: Global, name: &'a str, document: &'a Value) -> Result<Binding<'a>, StateError>
+    ensures { ReadsDue binding_view (or_invalid_binding name.now (binding_in name.now (view document.now))) result }
+{
+    match Binding::read(alloc, name, document) {
+        Ok(binding) => Ok(binding),
+        Err(BindingError::Memory) => Err(StateError::Memory),
+        Err(BindingError::InvalidPart(part)) => {
+            let name = String::from_str(alloc, name)?;
+            Err(StateError::InvalidBinding(name, part))
+        }
+    }
 }
 
 /// The policies that have a binding.
@@ -103,16 +112,23 @@ fn policies_in<'a>(
     let mut policies = Vec::new(alloc);
     for (name, document) in named.iter() {
         if is_bound(&names, name) {
-            match Policy::read(alloc, name, document) {
-                Ok(policy) => policies.push(policy)?,
-                Err(FieldError::Memory) => return Err(StateError::Memory),
-                Err(FieldError::InvalidField) => {
-                    return Err(StateError::InvalidPolicy(String::from_str(alloc, name)?));
-                }
-            }
+            policies = appended(policies, policy(alloc, name, document))?;
         }
     }
     Ok(policies)
+}
+
+/// The policy with this name, or the refusal of the state because of it.
+fn policy<'a>(alloc: Global, name: &'a str, document: &'a Value) -> Result<Policy<'a>, StateError>
+    ensures { ReadsDue policy_view (or_invalid_policy name.now (policy_in name.now (view document.now))) result }
+{
+    match Policy::read(alloc, name, document) {
+        Ok(policy) => Ok(policy),
+        Err(FieldError::Memory) => Err(StateError::Memory),
+        Err(FieldError::InvalidField) => {
+            Err(StateError::InvalidPolicy(String::from_str(alloc, name)?))
+        }
+    }
 }
 
 /// The names of the policies that bindings refer to.
