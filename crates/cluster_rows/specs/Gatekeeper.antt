@@ -33,6 +33,7 @@ use Rattle.gatekeeper_runner.specs.ClusterEnding.{ending_of}
 use Rattle.gatekeeper_runner.specs.ClusterLines.{decision_text}
 use Rattle.gatekeeper_runner.specs.ClusterStarting.{cause_code, cause_text, code_and_name, fault_line, fault_text, state_text}
 use Rattle.gatekeeper_runner.specs.ClusterTelling.{block_text, params_text, policy_line}
+use Rattle.host.specs.declared.file_failure.FileFailure.TheVariants.{NotFound, PermissionDenied, IsADirectory, Other}
 use Rattle.gatekeeper_runner.specs.FileFaults.{file_text}
 use Rattle.gatekeeper_runner.specs.Lines.{answer_text, refusal_text, too_long_text, uid_shown}
 use Rattle.gatekeeper_runner.specs.Together.{PolicyResult, Refused as RefusedReview, and_also, joined, rejections, told_refusal}
@@ -148,7 +149,10 @@ pub record FaultLineRowsHold : Type 0 where
   pub code_of_a_refused_policy : cause_code (Refused (Unread NotJson)) ≡ codes "C7"
   pub code_of_a_name : cause_code NamesNamespace ≡ codes "C7"
   pub code_of_a_kind : cause_code UnknownParamKind ≡ codes "C8"
-  pub unread_file : file_text (codes "p.json") file_fault.Unread ≡ codes "p.json: file"
+  pub missing_file : file_text (codes "p.json") (file_fault.Unread NotFound) ≡ codes "p.json: not found"
+  pub forbidden_file : file_text (codes "p.json") (file_fault.Unread PermissionDenied) ≡ codes "p.json: permission denied"
+  pub directory : file_text (codes "p.json") (file_fault.Unread IsADirectory) ≡ codes "p.json: is a directory"
+  pub unread_file : file_text (codes "p.json") (file_fault.Unread Other) ≡ codes "p.json: cannot be read"
   pub refused_file : file_text (codes "p.json") (file_fault.Refused (Unread NotJson)) ≡ codes "p.json: K1"
   pub refused_wide_file : file_text (codes "p.json") (file_fault.RefusedWide (wide_refusal.Unread HasAuditAnnotations))
       ≡ codes "p.json: K3 auditAnnotations"

@@ -2,9 +2,10 @@
 use Rattle.std.specs.Prelude.{◌≡◌, ℕ, List, ◌++◌, codes, Option, Some, None, option_map, Result, Ok, Err, Vec, string_bytes}
 use Rattle.std.specs.declared.alloc.Global.{Global}
 use Rattle.clap.specs.Words.{Text}
-use Rattle.host.specs.FileSystem.{FileSystem, IsReading}
-use Rattle.host.specs.declared.file_error.FileError.{FileError, TheVariants.Failed}
-use Rattle.host.specs.declared.file_error.FileError.TheVariants as file_error
+use Rattle.host.specs.ErrorCodes.{failure_text}
+use Rattle.host.specs.FileSystem.{FileSystem, IsReading, IsUnread}
+use Rattle.host.specs.declared.file_read_error.FileReadError.{FileReadError, TheVariants.Failed}
+use Rattle.host.specs.declared.file_read_error.FileReadError.TheVariants as read_error
 use Rattle.cli.specs.GivenFiles.{IsReadingGiven}
 use Rattle.cli.specs.Refusals.{policy_text}
 use Rattle.cli.specs.WideTexts.{wide_text}
@@ -21,9 +22,9 @@ use Rattle.gatekeeper_runner.specs.declared.start_refusal.StartRefusal.{StartRef
 -- ---- faults
 
 -- of a file that is not read
-abbrev pub fault_of_file : FileError → FileFault
-fault_of_file Failed = Unread
-fault_of_file file_error.Memory = file_fault.Memory
+abbrev pub fault_of_read : FileReadError → FileFault
+fault_of_read (Failed why) = Unread why
+fault_of_read read_error.Memory = file_fault.Memory
 
 -- of a file whose policy is refused
 abbrev pub fault_of_policy : PolicyRefusal → FileFault
@@ -43,9 +44,9 @@ IsRefusalOf name fault (Cluster _) = ⊥
 
 -- the refusal of the file of this name, which is not read
 pub record IsFileUnread (known : Option FileSystem) (name : Text) (r : StartRefusal) : Type 0 where
-  pub error : FileError
-  pub reading : IsReading known name (Err error)
-  pub told : IsRefusalOf name (fault_of_file error) r
+  pub error : FileReadError
+  pub reading : IsUnread known name error
+  pub told : IsRefusalOf name (fault_of_read error) r
 
 -- the refusal of an optional file, which is not read
 abbrev pub IsUnreadGiven : Option FileSystem → Option Text → StartRefusal → Type 0
@@ -60,7 +61,7 @@ file_front name = name ++ codes ": "
 
 -- what is wrong with the file of this name
 abbrev pub file_text : Text → FileFault → List ℕ
-file_text name Unread = file_front name ++ codes "file"
+file_text name (Unread why) = file_front name ++ failure_text why
 file_text name (Refused e) = file_front name ++ policy_text e
 file_text name (RefusedWide e) = file_front name ++ wide_text e
 file_text name file_fault.Memory = codes "memory"

@@ -17,7 +17,7 @@ use crate::starting::start;
 use crate::task::Task;
 use crate::translating::translate;
 use cli::texts_of;
-use host::{Files, OrderError};
+use host::{OrderError, ReadableFiles};
 use std::alloc::Global;
 
 /// What the words ask for, with the files that it needs.
@@ -25,7 +25,7 @@ use std::alloc::Global;
 /// # Errors
 ///
 /// The first refusal: of the words, then of a file, of a policy or of a list.
-pub fn begin<F: Files>(
+pub fn begin<F: ReadableFiles>(
     alloc: Global,
     words: Result<Vec<String>, OrderError>,
     files: &mut F,
@@ -40,7 +40,7 @@ pub fn begin<F: Files>(
 }
 
 /// The task of words that ask for no text.
-fn begin_lines<F: Files>(
+fn begin_lines<F: ReadableFiles>(
     alloc: Global,
     words: Result<Vec<String>, OrderError>,
     files: &mut F,
@@ -54,7 +54,11 @@ fn begin_lines<F: Files>(
 }
 
 /// The task of an order.
-fn begin_order<F: Files>(alloc: Global, order: Order, files: &mut F) -> Result<Task, StartRefusal>
+fn begin_order<F: ReadableFiles>(
+    alloc: Global,
+    order: Order,
+    files: &mut F,
+) -> Result<Task, StartRefusal>
     ensures task { (given : Given) → text_asked given ≡ None → AsksGatekeeper given (lines_order_view order) → Begins given (F.known files.old) result }
     ensures known { F.known files.new ≡ F.known files.old }
 {
@@ -72,7 +76,7 @@ fn begin_order<F: Files>(alloc: Global, order: Order, files: &mut F) -> Result<T
 }
 
 /// The task of an order for a cluster.
-fn begin_cluster<F: Files>(
+fn begin_cluster<F: ReadableFiles>(
     alloc: Global,
     order: ClusterOrder,
     files: &mut F,

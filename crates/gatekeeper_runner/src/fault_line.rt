@@ -45,9 +45,9 @@ fn add_file(
     ensures { OnOk result (line.new.items ≡ line.old.items ++ file_text name.now fault.now) }
 {
     match fault {
-        FileFault::Unread => {
+        FileFault::Unread(why) => {
             add_front(line, name)?;
-            add_text(line, "file")
+            add_text(line, why.text())
         }
         FileFault::Refused(error) => {
             add_front(line, name)?;

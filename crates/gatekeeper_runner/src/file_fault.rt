@@ -1,17 +1,17 @@
 //! What is wrong with a file.
 ghost use Rattle.std.specs.Prelude.{◌≡◌};
-ghost use Rattle.gatekeeper_runner.specs.FileFaults.{fault_of_file, fault_of_policy, fault_of_wide};
+ghost use Rattle.gatekeeper_runner.specs.FileFaults.{fault_of_read, fault_of_policy, fault_of_wide};
 ghost use Rattle.gatekeeper_runner.specs.declared.file_fault.FileFault.TheVariants as file_fault;
 
 use admission::{PolicyRefusal, WideRefusal};
-use host::FileError;
+use host::{FileFailure, FileReadError};
 use std::alloc::AllocError;
 
 /// What is wrong with a file that a start reads.
 #[derive(Drop)]
 pub enum FileFault {
-    /// It is not read.
-    Unread,
+    /// It is not read, for this reason.
+    Unread(FileFailure),
     /// The policy in it is refused.
     Refused(PolicyRefusal),
     /// The policy in it, which is read in the wide language, is refused.
@@ -20,13 +20,13 @@ pub enum FileFault {
     Memory,
 }
 
-impl From<FileError> for FileFault {
-    ghost from_gives = { λ e f. f ≡ fault_of_file e };
+impl From<FileReadError> for FileFault {
+    ghost from_gives = { λ e f. f ≡ fault_of_read e };
 
-    fn from(error: FileError) -> FileFault {
+    fn from(error: FileReadError) -> FileFault {
         match error {
-            FileError::Failed => FileFault::Unread,
-            FileError::Memory => FileFault::Memory,
+            FileReadError::Failed(why) => FileFault::Unread(why),
+            FileReadError::Memory => FileFault::Memory,
         }
     }
 }

@@ -6,11 +6,11 @@ use crate::cluster_fault::ClusterFault;
 use crate::file_fault::FileFault;
 use crate::start_refusal::StartRefusal;
 use cli::Refusal;
-use host::Files;
+use host::ReadableFiles;
 use std::alloc::Global;
 
 /// The bytes of the file with this name.
-pub fn read_file<F: Files>(
+pub fn read_file<F: ReadableFiles>(
     alloc: Global,
     name: &str,
     files: &mut F,
@@ -18,14 +18,14 @@ pub fn read_file<F: Files>(
     ensures read { ReadsFrom (F.known files.old) name.now result }
     ensures known { F.known files.new ≡ F.known files.old }
 {
-    match files.read(alloc, name) {
+    match files.read_file(alloc, name) {
         Ok(bytes) => Ok(bytes),
         Err(error) => Err(in_file(alloc, name, FileFault::from(error))),
     }
 }
 
 /// The bytes of the file with this name, if there is a name.
-pub fn read_optional<F: Files>(
+pub fn read_optional<F: ReadableFiles>(
     alloc: Global,
     name: &Option<String>,
     files: &mut F,

@@ -6,7 +6,7 @@ use crate::cluster_fault::ClusterFault;
 use crate::file_reading::read_file;
 use crate::start_refusal::StartRefusal;
 use cluster_state::parse;
-use host::Files;
+use host::ReadableFiles;
 use serde_json::Value;
 use std::alloc::Global;
 
@@ -16,7 +16,7 @@ use std::alloc::Global;
 ///
 /// The first file that is not read or is not JSON. `Memory` if an allocation fails, which implies
 /// nothing about the rest.
-pub fn read_lists<F: Files>(
+pub fn read_lists<F: ReadableFiles>(
     alloc: Global,
     names: &[String],
     files: &mut F,
@@ -36,7 +36,11 @@ pub fn read_lists<F: Files>(
 }
 
 /// The document in the file of this name.
-fn read_list<F: Files>(alloc: Global, name: &str, files: &mut F) -> Result<Value, StartRefusal>
+fn read_list<F: ReadableFiles>(
+    alloc: Global,
+    name: &str,
+    files: &mut F,
+) -> Result<Value, StartRefusal>
     ensures list { ListRead (F.known files.old) name.now result }
     ensures known { F.known files.new ≡ F.known files.old }
 {

@@ -18,7 +18,7 @@ use crate::task::Task;
 use crate::translation::Translation;
 use crate::verbose::{ending_of, tell_under};
 use cli::{Refusal, exit_with};
-use host::{Files, OrderError};
+use host::{OrderError, ReadableFiles};
 use std::alloc::Global;
 use std::process::ExitCode;
 use streams::{LineSource, Sink, write_all};
@@ -27,7 +27,7 @@ use streams::{LineSource, Sink, write_all};
 /// code. The program's name comes first. A refusal is one line on standard error; the exit code is
 /// the same if that line cannot be written. `words` is `InvalidArguments` if an argument is not
 /// UTF-8, and `Memory` if an allocation for them failed.
-pub fn exit_code<F: Files, R: LineSource, W: Sink, E: Sink>(
+pub fn exit_code<F: ReadableFiles, R: LineSource, W: Sink, E: Sink>(
     alloc: Global,
     words: Result<Vec<String>, OrderError>,
     files: &mut F,

@@ -12,7 +12,7 @@ use crate::policy_order::PolicyOrder;
 use crate::start_refusal::StartRefusal;
 use admission::{Gate, Language, WideGate};
 use cli::Refusal;
-use host::Files;
+use host::ReadableFiles;
 use review_tables::SharedDocuments;
 use std::alloc::Global;
 
@@ -23,7 +23,7 @@ use std::alloc::Global;
 ///
 /// The first refusal: of a policy's file or its policy, then of the namespace's file, then of the
 /// params' file. `Memory` if an allocation fails, which implies nothing about the files.
-pub fn start<F: Files>(
+pub fn start<F: ReadableFiles>(
     alloc: Global,
     order: &PolicyOrder,
     files: &mut F,
@@ -45,7 +45,7 @@ pub fn start<F: Files>(
 }
 
 /// Compiles the policies of this language in the files with these names.
-fn open_each<F: Files>(
+fn open_each<F: ReadableFiles>(
     alloc: Global,
     names: &[String],
     language: Language,
@@ -66,7 +66,7 @@ fn open_each<F: Files>(
 }
 
 /// Compiles the policy of this language in the file with this name.
-fn open<F: Files>(
+fn open<F: ReadableFiles>(
     alloc: Global,
     name: &str,
     language: Language,
@@ -83,7 +83,7 @@ fn open<F: Files>(
 
 /// Compiles the policy of this language in the file with this name, or says what is wrong with the
 /// file.
-fn open_file<F: Files>(
+fn open_file<F: ReadableFiles>(
     alloc: Global,
     name: &str,
     language: Language,
@@ -92,7 +92,7 @@ fn open_file<F: Files>(
     ensures gate { OpensPolicyFile (F.known files.old) language name.now result }
     ensures known { F.known files.new ≡ F.known files.old }
 {
-    let document = files.read(alloc, name)?;
+    let document = files.read_file(alloc, name)?;
     let gate = gate_of(alloc, document.as_slice(), language)?;
     let label = label_of(alloc, name, document.as_slice())?;
     Ok(NamedGate { gate, label })

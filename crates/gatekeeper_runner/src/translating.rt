@@ -12,7 +12,7 @@ use crate::translation::Translation;
 use crate::translation_order::TranslationOrder;
 use crate::translation_text::translation_text;
 use admission::{MessageRule, WideRefusal};
-use host::Files;
+use host::ReadableFiles;
 use policy_glue::compile;
 use std::alloc::Global;
 use wide_policy::WidePolicy;
@@ -23,7 +23,7 @@ use wide_policy::WidePolicy;
 ///
 /// What a start under this policy is refused for: its file, or the policy. `Memory` if an allocation
 /// fails, which implies nothing about the file.
-pub fn translate<F: Files>(
+pub fn translate<F: ReadableFiles>(
     alloc: Global,
     order: &TranslationOrder,
     files: &mut F,
@@ -38,7 +38,7 @@ pub fn translate<F: Files>(
 }
 
 /// What is written for the policy in the file that the order names, or what is wrong with the file.
-fn translate_file<F: Files>(
+fn translate_file<F: ReadableFiles>(
     alloc: Global,
     order: &TranslationOrder,
     files: &mut F,
@@ -47,7 +47,7 @@ fn translate_file<F: Files>(
     ensures known { F.known files.new ≡ F.known files.old }
 {
     let file = order.file.as_str();
-    let document = files.read(alloc, file)?;
+    let document = files.read_file(alloc, file)?;
     let policy = read_translated(alloc, document.as_slice(), order.rule)?;
     let label = label_of(alloc, file, document.as_slice())?;
     let mut notes = Vec::new(alloc);

@@ -3,11 +3,15 @@ use Rattle.std.specs.Prelude.{◌≡◌, ℕ, Bool, true, false, List, Option, S
 use Rattle.std.specs.Str.{bytes_eq}
 use Rattle.std.specs.declared.alloc.Global.{Global}
 use Rattle.host.specs.declared.file_error.FileError.{FileError, TheVariants.Failed, TheVariants.Memory}
+use Rattle.host.specs.declared.file_failure.FileFailure.{FileFailure}
+use Rattle.host.specs.declared.file_read_error.FileReadError.{FileReadError}
+use Rattle.host.specs.declared.file_read_error.FileReadError.TheVariants as read_error
 
--- the bytes of each readable file, and which files are writable
+-- the bytes of each readable file, which files are writable, and why a file without bytes is not read
 pub record FileSystem : Type 0 where
   pub holds : List ℕ → Option (List ℕ)
   pub takes : List ℕ → Bool
+  pub unread : List ℕ → FileFailure
 
 -- ---- reads
 
@@ -30,6 +34,16 @@ ReadsFile held (Err Memory) = Unit {0}
 abbrev pub IsReading : Option FileSystem → List ℕ → FileRead → Type 0
 IsReading known name reading = (f : FileSystem) → known ≡ Some f → ReadsFile (f.holds name) reading
 
+-- the error is a possible one of a read of this name: there are no bytes, and this is the reason
+abbrev pub IsUnread : Option FileSystem → List ℕ → FileReadError → Type 0
+IsUnread known name (read_error.Failed why) = (f : FileSystem) → known ≡ Some f → (f.holds name ≡ None) × (why ≡ f.unread name)
+IsUnread known name read_error.Memory = Unit {0}
+
+-- the bytes of the file with this name by the code, or why it is not read
+abbrev pub ReadsOrFails : Option FileSystem → List ℕ → Result (Vec ℕ Global) FileReadError → Type 0
+ReadsOrFails known name (Ok bytes) = IsReading known name (Ok bytes.items)
+ReadsOrFails known name (Err e) = IsUnread known name e
+
 -- ---- writes
 
 -- all names keep their files, except one that now has these bytes
@@ -41,6 +55,7 @@ with_file files name bytes other = if bytes_eq other name then Some bytes else f
 pub record WritesFile (old new : FileSystem) (name bytes : List ℕ) (succeeds : Bool) : Type 0 where
   pub taken : old.takes name ≡ succeeds
   pub takes : new.takes ≡ old.takes
+  pub unread : new.unread ≡ old.unread
   pub holds : (other : List ℕ) → new.holds other ≡ (if succeeds then with_file old name bytes other else old.holds other)
 
 -- the possible results of a write of these bytes to this name, and the files after it;
@@ -55,10 +70,11 @@ abbrev pub IsWriting : Option FileSystem → List ℕ → List ℕ → Option Fi
 IsWriting known name bytes after result =
     (f : FileSystem) → known ≡ Some f → (g : FileSystem) × (after ≡ Some g) × AnswersWrite f g name bytes result
 
--- all files have the same bytes, and the same names are writable
+-- all files have the same bytes, the same names are writable, and the others are not read for the same reasons
 pub record IsSame (old new : FileSystem) : Type 0 where
   pub holds : (name : List ℕ) → new.holds name ≡ old.holds name
   pub takes : new.takes ≡ old.takes
+  pub unread : new.unread ≡ old.unread
 
 -- known files stay known and unchanged
 abbrev pub KeepsFiles : Option FileSystem → Option FileSystem → Type 0

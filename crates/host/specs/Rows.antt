@@ -1,9 +1,13 @@
 -- Reads and writes of a few files, worked out by hand: possible results and files afterwards, and impossible ones.
 use Rattle.std.specs.Prelude.{◌≡◌, ℕ, Bool, List, [], ◌∷◌, Option, Some, None, Ok, Err, codes, if◌then◌else◌}
 use Rattle.std.specs.Str.{bytes_eq}
-use Rattle.host.specs.ErrorCodes.{file_error_code, order_error_code}
-use Rattle.host.specs.FileSystem.{FileSystem, IsReading, IsSame, IsWriting, KeepsFiles, ReadsFile, AnswersWrite, with_file}
+use Rattle.std.specs.declared.io.ErrorKind.TheVariants as kind
+use Rattle.host.specs.ErrorCodes.{failure_of, failure_text, file_error_code, order_error_code}
+use Rattle.host.specs.FileSystem.{FileSystem, IsReading, IsSame, IsUnread, IsWriting, KeepsFiles, ReadsFile, AnswersWrite, with_file}
 use Rattle.host.specs.declared.file_error.FileError.TheVariants.{Failed, Memory}
+use Rattle.host.specs.declared.file_failure.FileFailure.{FileFailure}
+use Rattle.host.specs.declared.file_failure.FileFailure.TheVariants.{NotFound, PermissionDenied, IsADirectory, Other}
+use Rattle.host.specs.declared.file_read_error.FileReadError.TheVariants as read_error
 use Rattle.host.specs.declared.order_error.OrderError.TheVariants as order_error
 
 -- the name of a file
@@ -26,13 +30,17 @@ held name = if bytes_eq name first then Some (7 ∷ 8 ∷ []) else (if bytes_eq 
 abbrev pub taken : List ℕ → Bool
 taken name = bytes_eq name second
 
+-- why a file is not read: the third is a directory
+abbrev pub reason : List ℕ → FileFailure
+reason name = if bytes_eq name third then IsADirectory else NotFound
+
 -- the two files
 abbrev pub files : FileSystem
-files = record { holds = held; takes = taken }
+files = record { holds = held; takes = taken; unread = reason }
 
 -- the files after the byte 9 was written to the second
 abbrev pub written : FileSystem
-written = record { holds = with_file files second (9 ∷ []); takes = taken }
+written = record { holds = with_file files second (9 ∷ []); takes = taken; unread = reason }
 
 -- possible and impossible results of reads, and the codes of the errors
 pub record FileRowsStand : Type 0 where
@@ -47,6 +55,12 @@ pub record FileRowsStand : Type 0 where
   pub known_read : IsReading (Some files) first (Ok (7 ∷ 8 ∷ []))
   pub known_read_of_another : IsReading (Some files) first (Ok []) → ⊥
   pub unknown_read : IsReading None first (Ok [])
+  -- reasons
+  pub unread : IsUnread (Some files) third (read_error.Failed IsADirectory)
+  pub unread_for_another_reason : IsUnread (Some files) third (read_error.Failed NotFound) → ⊥
+  pub unread_though_held : IsUnread (Some files) first (read_error.Failed NotFound) → ⊥
+  pub unread_without_memory : IsUnread (Some files) first read_error.Memory
+  pub unread_of_unknown : IsUnread None first (read_error.Failed Other)
   -- the bytes of the written file, and of the others
   pub new_bytes : written.holds second ≡ Some (9 ∷ [])
   pub old_bytes : written.holds first ≡ Some (7 ∷ 8 ∷ [])
@@ -56,6 +70,16 @@ pub record FileRowsStand : Type 0 where
   pub memory : file_error_code Memory ≡ codes "memory"
   pub words : order_error_code order_error.InvalidArguments ≡ codes "U1"
   pub words_memory : order_error_code order_error.Memory ≡ codes "memory"
+  -- the failures of the system's errors, and their texts
+  pub no_file : failure_of kind.NotFound ≡ NotFound
+  pub no_permission : failure_of kind.PermissionDenied ≡ PermissionDenied
+  pub directory : failure_of kind.IsADirectory ≡ IsADirectory
+  pub no_directory : failure_of kind.NotADirectory ≡ Other
+  pub uncategorized : failure_of kind.Uncategorized ≡ Other
+  pub no_file_text : failure_text NotFound ≡ codes "not found"
+  pub no_permission_text : failure_text PermissionDenied ≡ codes "permission denied"
+  pub directory_text : failure_text IsADirectory ≡ codes "is a directory"
+  pub other_text : failure_text Other ≡ codes "cannot be read"
 
 -- possible and impossible results of writes
 pub record FileWriteRowsStand : Type 0 where

@@ -1,9 +1,13 @@
 //! The files of the operating system.
 ghost use Rattle.std.specs.Prelude.{◌≡◌, Err, IfErr, IfOk, Ok};
 ghost use Rattle.std.specs.IoError.{error_kind};
+ghost use Rattle.host.specs.ErrorCodes.{failure_of};
 
 use crate::file_error::FileError;
+use crate::file_failure::FileFailure;
+use crate::file_read_error::FileReadError;
 use crate::files::Files;
+use crate::readable_files::ReadableFiles;
 use std::alloc::Global;
 use std::fs::{self, Metadata, OpenFile};
 use std::io::{self, Error, ErrorKind, Write};
@@ -33,6 +37,16 @@ impl<'a, R: rt::Files + AllocGlobal> Files for Disk<'a, R> {
 
     fn write(&mut self, name: &str, bytes: &[u8]) -> Result<(), FileError> {
         answered(written(self.rt, name, bytes))
+    }
+}
+
+impl<'a, R: rt::Files + AllocGlobal> ReadableFiles for Disk<'a, R> {
+    ghost use Rattle.std.specs.Prelude.{None};
+
+    ghost known = { λ _. None };
+
+    fn read_file(&mut self, _alloc: Global, name: &str) -> Result<Vec<u8>, FileReadError> {
+        explained(fs::read(self.rt, name))
     }
 }
 
@@ -84,5 +98,28 @@ fn file_error(error: Error) -> FileError
     match error.kind() {
         ErrorKind::OutOfMemory => FileError::Memory,
         _ => FileError::Failed,
+    }
+}
+
+/// The system's result, with its error as a `FileReadError`.
+fn explained<T: Drop>(answer: io::Result<T>) -> Result<T, FileReadError>
+    ensures ok { IfOk answer (λ t. result ≡ Ok t) }
+    ensures memory { IfErr answer (λ e. error_kind e ≡ ErrorKind.OutOfMemory → result ≡ Err FileReadError.Memory) }
+    ensures failed { IfErr answer (λ e. (error_kind e ≡ ErrorKind.OutOfMemory → ⊥) → result ≡ Err (FileReadError.Failed (failure_of (error_kind e)))) }
+{
+    match answer {
+        Ok(given) => Ok(given),
+        Err(error) => Err(read_error(error)),
+    }
+}
+
+/// The `FileReadError` of a system error.
+fn read_error(error: Error) -> FileReadError
+    ensures memory { error_kind error ≡ ErrorKind.OutOfMemory → result ≡ FileReadError.Memory }
+    ensures other { (error_kind error ≡ ErrorKind.OutOfMemory → ⊥) → result ≡ FileReadError.Failed (failure_of (error_kind error)) }
+{
+    match error.kind() {
+        ErrorKind::OutOfMemory => FileReadError::Memory,
+        kind => FileReadError::Failed(FileFailure::of_kind(kind)),
     }
 }

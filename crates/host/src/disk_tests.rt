@@ -2,7 +2,10 @@
 
 use crate::disk::{Disk, remove_opened};
 use crate::file_error::FileError;
+use crate::file_failure::FileFailure;
+use crate::file_read_error::FileReadError;
 use crate::files::Files;
+use crate::readable_files::ReadableFiles;
 use std::alloc::{AllocError, Global};
 use std::os::unix::fs::symlink;
 use std::test::Fail;
@@ -40,6 +43,22 @@ fn files_keep_what_is_written(rt: HostRuntime) -> Result<(), Fail> {
 fn a_missing_file_fails(rt: HostRuntime) {
     let read = Disk::new(&rt).read(rt.alloc(), "missing").err();
     assert!(rt; read == Some(FileError::Failed));
+}
+
+/// Names that cannot be read, and why.
+const UNREAD: [(&str, FileFailure); 4] = [
+    ("missing", FileFailure::NotFound),
+    ("", FileFailure::NotFound),
+    ("/", FileFailure::IsADirectory),
+    ("/dev/null/a", FileFailure::Other),
+];
+
+#[test]
+fn files_that_are_not_read_have_a_reason(rt: HostRuntime) {
+    for (name, why) in &UNREAD {
+        let read = Disk::new(&rt).read_file(rt.alloc(), name).err();
+        assert!(rt; read == Some(FileReadError::Failed(*why)), "{name}");
+    }
 }
 
 #[test]

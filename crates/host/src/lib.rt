@@ -5,15 +5,21 @@ mod disk;
 #[cfg(test)]
 mod disk_tests;
 mod file_error;
+mod file_failure;
+mod file_read_error;
 mod files;
 mod order_error;
+mod readable_files;
 pub mod rows;
 pub mod words;
 
 pub use disk::Disk;
 pub use file_error::FileError;
+pub use file_failure::FileFailure;
+pub use file_read_error::FileReadError;
 pub use files::Files;
 pub use order_error::OrderError;
+pub use readable_files::ReadableFiles;
 pub use streams::{Buffered, Counting};
 
 /// Runs `$exit_code` on the words, the files and the streams of the system that `$rt` gives. Standard input is read

@@ -23,7 +23,7 @@ may_run_out kind reading file made = grind (arith, policy_may, text_may)
 
 -- unchanged files are kept
 pub same_files : (old new : Option FileSystem) → new ≡ old → KeepsFiles old new
-same_files old new stays f known = (f, stays ∙ known, record { holds = λ name. refl; takes = refl })
+same_files old new stays f known = (f, stays ∙ known, record { holds = λ name. refl; takes = refl; unread = refl })
 
 was_kept : (old new : Option FileSystem) (name bytes : List ℕ) → IsWriting old name bytes new (Err file_error.Memory) → KeepsFiles old new
 was_kept old new name bytes write = grind arith

@@ -4,7 +4,7 @@ pub use Rattle.std.proofs.Common.{Less, List, None, Ok, OnErr, OnOk, Option, Ord
 pub use Rattle.std.proofs.Common.{[], ap, append-nil, append_assoc, arith, bytes_eq, codes, cond, decimal, drop}
 pub use Rattle.std.proofs.Common.{false, find, fold, get_or, if◌then◌else◌, inl, inr, is_eq, is_some, length, map}
 pub use Rattle.std.proofs.Common.{nat_cmp, nat_le, nat_lt, option_and_then, option_map, refl, slice_get, slice_index}
-pub use Rattle.std.proofs.Common.{string_bytes, subst, suc, sym, take, true, unwrap_or, zero, ◌&&◌, ◌*◌, ◌++◌, ◌+◌}
+pub use Rattle.std.proofs.Common.{rules, string_bytes, subst, suc, sym, take, true, unwrap_or, zero, ◌&&◌, ◌*◌, ◌++◌, ◌+◌}
 pub use Rattle.std.proofs.Common.{◌<◌, ◌==◌, ◌^◌, ◌∙◌, ◌∷◌, ◌≡◌, ◌≤◌, ◌⊎◌}
 pub use Rattle.std.proofs.lemmas.Bool.{and_from, and_parts, cases_lt, leb-true, lt-ltb, ltb-true}
 pub use Rattle.std.proofs.lemmas.List.{length-map, length_push}
@@ -65,7 +65,7 @@ pub use Rattle.clap.specs.Walk.{long_or_other, nothing_held, one_of, option_met,
 pub use Rattle.clap.specs.Walk.{rows_after, settled, settled_rows, used, walk, walk_from, with_default, with_values}
 pub use Rattle.clap.specs.Walk.{word_met}
 pub use Rattle.clap.specs.Words.{FailsBy, ReadsOne, fault_of, found_of, is_simple, is_simple_and_free, one_text}
-pub use Rattle.clap.specs.Words.{subcommand_of}
+pub use Rattle.clap.specs.Words.{app_of, new_app, subcommand_of, with_rule, with_subcommand}
 pub use Rattle.clap.specs.declared.error.kind.ErrorKind.{ErrorKind}
 pub use Rattle.clap.specs.declared.parser.matches.ValueSource.{ValueSource}
 pub use Rattle.clap.specs.declared.parser.matches.ValueSource.TheVariants.{CommandLine}
@@ -173,7 +173,7 @@ unfoldable pub use Rattle.review_runner.specs.Commands.{celbpf_app, command, com
 unfoldable pub use Rattle.review_runner.specs.Commands.{with_commands}
 unfoldable pub use Rattle.cli.specs.Arguments.{option_rule}
 unfoldable pub use Rattle.cli.specs.Arguments.{required_option_rule}
-unfoldable pub use Rattle.cli.specs.Arguments.{steps_rule}
+unfoldable pub use Rattle.cli.specs.Arguments.{steps_rule, with_documents}
 unfoldable pub use Rattle.cli.specs.Number.{number_of}
 unfoldable pub use Rattle.review_runner.specs.Order.{assemble_in, compile_in, debug_in, list_in, review_in}
 unfoldable pub use Rattle.review_runner.specs.Order.{run_image_in}

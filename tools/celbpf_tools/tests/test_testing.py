@@ -140,7 +140,7 @@ class Wanted(Files):
         words = ("--policy", Path("a/p.json"), "--params", "a/q.json")
         for line, due in [
             ("celbpf: a/p.json: K6 validation 0 W5 url", "celbpf: K6 validation 0 W5 url"),
-            ("celbpf: a/q.json: file", "celbpf: file"),
+            ("celbpf: a/q.json: not found", "celbpf: not found"),
             ("celbpf: b/p.json: K2", "celbpf: b/p.json: K2"),
             ("celbpf: memory", "celbpf: memory"),
             ("", ""),

@@ -79,20 +79,64 @@ fn running_command<'a>(alloc: Global) -> Result<Command<'a>, AllocError>
     ensures shape { IfOk result (λ c. app_of c ≡ with_commands (take 2 commands)) }
     ensures local { IfOk result (λ c. (fields_of c).has_globals ≡ false) }
 {
+    let run_image = run_image_command(alloc)?;
     let command = Command::new(alloc, "celbpf").subcommand_required(true);
-    let command = command.subcommand(run_image_command(alloc)?)?;
-    command.subcommand(debug_command(alloc)?)
+    let command = command.subcommand(run_image)?;
+    match debug_command(alloc) {
+        Ok(debug) => command.subcommand(debug),
+        Err(error) => {
+            drop(command);
+            Err(error)
+        }
+    }
 }
 
-// these commands, and those for policies
+// these commands, and the one that compiles a policy
+#[tactic(auto, unfolding(crate::specs::Commands::with_commands, crate::specs::Commands::commands))]
+fn compiling_command<'a>(alloc: Global) -> Result<Command<'a>, AllocError>
+    ensures shape { IfOk result (λ c. app_of c ≡ with_commands (take 3 commands)) }
+    ensures local { IfOk result (λ c. (fields_of c).has_globals ≡ false) }
+{
+    let command = running_command(alloc)?;
+    match making_command(alloc, "compile", "POLICY") {
+        Ok(compile) => command.subcommand(compile),
+        Err(error) => {
+            drop(command);
+            Err(error)
+        }
+    }
+}
+
+// these commands, and the one that decides a review
 #[tactic(auto, unfolding(crate::specs::Commands::with_commands, crate::specs::Commands::commands))]
 fn deciding_command<'a>(alloc: Global) -> Result<Command<'a>, AllocError>
     ensures shape { IfOk result (λ c. app_of c ≡ with_commands (take 4 commands)) }
     ensures local { IfOk result (λ c. (fields_of c).has_globals ≡ false) }
 {
-    let command = running_command(alloc)?;
-    let command = command.subcommand(making_command(alloc, "compile", "POLICY")?)?;
-    command.subcommand(review_command(alloc)?)
+    let command = compiling_command(alloc)?;
+    match review_command(alloc) {
+        Ok(review) => command.subcommand(review),
+        Err(error) => {
+            drop(command);
+            Err(error)
+        }
+    }
+}
+
+// these commands, and the one that assembles a text
+#[tactic(auto, unfolding(crate::specs::Commands::with_commands, crate::specs::Commands::commands))]
+fn assembling_command<'a>(alloc: Global) -> Result<Command<'a>, AllocError>
+    ensures shape { IfOk result (λ c. app_of c ≡ with_commands (take 5 commands)) }
+    ensures local { IfOk result (λ c. (fields_of c).has_globals ≡ false) }
+{
+    let command = deciding_command(alloc)?;
+    match making_command(alloc, "asm", "TEXT") {
+        Ok(assemble) => command.subcommand(assemble),
+        Err(error) => {
+            drop(command);
+            Err(error)
+        }
+    }
 }
 
 // the program, with all its commands
@@ -101,9 +145,14 @@ fn celbpf_command<'a>(alloc: Global) -> Result<Command<'a>, AllocError>
     ensures shape { IfOk result (λ c. app_of c ≡ celbpf_app) }
     ensures local { IfOk result (λ c. (fields_of c).has_globals ≡ false) }
 {
-    let command = deciding_command(alloc)?;
-    let command = command.subcommand(making_command(alloc, "asm", "TEXT")?)?;
-    command.subcommand(list_command(alloc)?)
+    let command = assembling_command(alloc)?;
+    match list_command(alloc) {
+        Ok(list) => command.subcommand(list),
+        Err(error) => {
+            drop(command);
+            Err(error)
+        }
+    }
 }
 
 // the arguments that `clap` finds in the words, or its error. The program's name comes first.

@@ -26,12 +26,15 @@ const THREE_ANSWERS: &str =
 
 /// The words, the status, standard output and standard error, on the lines above.
 #[rattlefmt::skip]
-const ROWS: [(&str, u8, &str, &str); 35] = [
+const ROWS: [(&str, u8, &str, &str); 38] = [
     (BOTH, 0, THREE_ANSWERS, "gatekeeper: policy p, bindings b\ngatekeeper: policy q, bindings c\n"),
     ("gatekeeper --cluster policies", 0, NOTHING_BOUND, ""),
     ("gatekeeper --cluster none", 3, "", "celbpf: C1 none\n"),
     ("gatekeeper --cluster policies --cluster namespace", 3, "", "celbpf: C1 namespace\n"),
-    ("gatekeeper --cluster policies --cluster missing --cluster none", 3, "", "celbpf: missing: file\n"),
+    ("gatekeeper --cluster policies --cluster missing --cluster none", 3, "", "celbpf: missing: not found\n"),
+    ("gatekeeper --cluster secret", 3, "", "celbpf: secret: permission denied\n"),
+    ("gatekeeper --cluster folder", 3, "", "celbpf: folder: is a directory\n"),
+    ("gatekeeper --cluster broken", 3, "", "celbpf: broken: cannot be read\n"),
     ("gatekeeper --cluster no-item", 3, "", "celbpf: C2 1\n"),
     ("gatekeeper --cluster double", 3, "", "celbpf: C3 prod\n"),
     ("gatekeeper --cluster no-namespace", 3, "", "celbpf: C4\n"),

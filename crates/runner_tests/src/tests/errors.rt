@@ -3,6 +3,7 @@
 use RunError::{
     NamespaceOrParamsRefused, OutOfReads, OutOfSteps, OverLimit, PolicyRefused, ReviewRefused,
 };
+use host::{FileFailure, FileReadError};
 use review_runner::{FileError, OrderError, PolicyRefusal, RunError};
 use std::alloc::{AllocError, Global};
 use std::fmt::Display;
@@ -49,6 +50,21 @@ const FILE_ERRORS: [(FileError, &str, &str); 2] = [
     (FileError::Memory, "memory", "out of memory"),
 ];
 
+/// The errors of a file that is read with the reason, with their messages.
+const FILE_READ_ERRORS: [(FileReadError, &str); 5] = [
+    (FileReadError::Failed(FileFailure::NotFound), "not found"),
+    (
+        FileReadError::Failed(FileFailure::PermissionDenied),
+        "permission denied",
+    ),
+    (
+        FileReadError::Failed(FileFailure::IsADirectory),
+        "is a directory",
+    ),
+    (FileReadError::Failed(FileFailure::Other), "cannot be read"),
+    (FileReadError::Memory, "out of memory"),
+];
+
 #[test]
 fn errors_have_codes_and_words(rt: HostRuntime) -> Result<(), Fail> {
     for (error, code, words) in &ORDER_ERRORS {
@@ -61,6 +77,9 @@ fn errors_have_codes_and_words(rt: HostRuntime) -> Result<(), Fail> {
     }
     for (error, code, words) in &FILE_ERRORS {
         assert_eq!(rt; error.code(), *code);
+        assert!(rt; has_words(rt.alloc(), error, words)?, "{words}");
+    }
+    for (error, words) in &FILE_READ_ERRORS {
         assert!(rt; has_words(rt.alloc(), error, words)?, "{words}");
     }
     Ok(())

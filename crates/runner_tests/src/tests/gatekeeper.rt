@@ -170,11 +170,11 @@ const DECISIONS: [(&str, &str, u8, &str, &str); 22] = [
 #[rattlefmt::skip]
 const STARTS: [(&str, &str, u8, &str, &str); 29] = [
     ("gatekeeper --policy few --policy none", TWO, 3, "", "none: K1"),
-    (NO_POLICY, TWO, 3, "", "missing: file"),
-    (NO_NAMESPACE, TWO, 3, "", "missing: file"),
+    (NO_POLICY, TWO, 3, "", "missing: not found"),
+    (NO_NAMESPACE, TWO, 3, "", "missing: not found"),
     ("gatekeeper --policy bytes --policy none", TWO, 3, "", "bytes: K6 validation 0 W1 at 12"),
     ("gatekeeper --policy none --policy bytes", TWO, 3, "", "none: K1"),
-    ("gatekeeper --policy few --namespace none --params missing", TWO, 3, "", "missing: file"),
+    ("gatekeeper --policy few --namespace none --params missing", TWO, 3, "", "missing: not found"),
     ("gatekeeper", TWO, 2, "", "U1"),
     (FEW, " \t\r\n\r\n  \n\t", 0, "", ""),
     // each line of TWO has 117 bytes
@@ -212,7 +212,7 @@ const TRANSLATIONS: [(&str, &str, u8, &str, &str); 15] = [
     ("gatekeeper --translate unknown", TWO, 3, "", "unknown: K6 validation 1 W5 url"),
     ("gatekeeper --translate no-value --leave-messages", TWO, 3, "", "no-value: K6 validation 0 W4"),
     ("gatekeeper --translate none", TWO, 3, "", "none: K1"),
-    ("gatekeeper --translate missing", TWO, 3, "", "missing: file"),
+    ("gatekeeper --translate missing", TWO, 3, "", "missing: not found"),
     ("gatekeeper --translate", TWO, 2, "", "U1"),
     ("gatekeeper --translate few --policy few", TWO, 2, "", "U1"),
     ("gatekeeper --policy few --translate few", TWO, 2, "", "U1"),

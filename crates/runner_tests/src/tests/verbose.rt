@@ -53,7 +53,7 @@ const ROWS: [(&str, &str, u8, &str, &str); 8] = [
     ("gatekeeper --verbose --policy few --status", LINES, 1, ANSWERS, REFUSALS),
     ("gatekeeper --verbose --policy few --status", "\n \n", 0, "", ""),
     ("gatekeeper --policy few --verbose yes", LINES, 2, "", "celbpf: U1\n"),
-    ("gatekeeper --policy missing --verbose", LINES, 3, "", "celbpf: missing: file\n"),
+    ("gatekeeper --policy missing --verbose", LINES, 3, "", "celbpf: missing: not found\n"),
 ];
 
 /// Whether the program ends with this status and both outputs, if standard output and standard error have

@@ -6,6 +6,6 @@ use Rattle.gatekeeper_runner.proofs.listing.read_lists.Given as goal
 
 abbrev pub invariant-loop-name : goal.invariant-loop-name
 invariant-loop-name g l = record {
-  hold : HoldLists (g.F.Files.known l.fn.files) (map string_bytes (take l.name-index l.names)) (map view l.lists.items);
-  known : g.F.Files.known l.files ≡ g.F.Files.known l.fn.files;
+  hold : HoldLists (g.F.ReadableFiles.known l.fn.files) (map string_bytes (take l.name-index l.names)) (map view l.lists.items);
+  known : g.F.ReadableFiles.known l.files ≡ g.F.ReadableFiles.known l.fn.files;
 }

@@ -8,7 +8,7 @@ some_same : (f g : FileSystem) → ◌≡◌ {A = Option FileSystem} (Some f) (S
 some_same f g is = cc
 
 write_held : AnswersWrite files written second (9 ∷ []) (Ok tt)
-write_held = record { taken = refl; takes = refl; holds = λ other. refl }
+write_held = record { taken = refl; takes = refl; unread = refl; holds = λ other. refl }
 
 not_lost : AnswersWrite files files second (9 ∷ []) (Ok tt) → ⊥
 not_lost w = let is = w.holds second in cc
@@ -17,7 +17,7 @@ not_same : IsSame files written → ⊥
 not_same s = let is = s.holds second in cc
 
 same_files : IsSame files files
-same_files = record { holds = λ name. refl; takes = refl }
+same_files = record { holds = λ name. refl; takes = refl; unread = refl }
 
 pub returns : goal.returns
 returns c = record {
@@ -25,7 +25,7 @@ returns c = record {
   write_is_lost = not_lost;
   write_to_another = λ w. let is = w.taken in cc;
   write_of_others = λ w. let is = w.holds second in cc;
-  write_fails = record { taken = refl; takes = refl; holds = λ other. refl };
+  write_fails = record { taken = refl; takes = refl; unread = refl; holds = λ other. refl };
   write_fails_and_changes = λ w. let is = w.holds second in cc;
   write_fails_where_it_is_taken = λ w. let is = w.taken in cc;
   write_without_memory = refl;

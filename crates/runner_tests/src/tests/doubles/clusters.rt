@@ -1,6 +1,6 @@
 //! States of clusters in files.
 
-use review_runner::{FileError, Files};
+use host::{FileFailure, FileReadError, ReadableFiles};
 use std::alloc::Global;
 
 /// Two bound policies: `p` denies more than 3 replicas, `q` warns of an odd number of them. The
@@ -63,16 +63,16 @@ const WIDE: &str =
 {"apiVersion":"admissionregistration.k8s.io/v1","kind":"ValidatingAdmissionPolicy","metadata":{"name":"p"},"spec":{"matchConstraints":{"resourceRules":[{"apiGroups":["apps"],"apiVersions":["v1"],"operations":["CREATE"],"resources":["deployments"]}]},"validations":[{"expression":"object.?spec.?replicas.orValue(1) <= 9"},{"expression":"object.spec.?replicas.orValue(1) <= 3","messageExpression":"string(url('a'))"}]}},
 {"apiVersion":"admissionregistration.k8s.io/v1","kind":"ValidatingAdmissionPolicyBinding","metadata":{"name":"b"},"spec":{"policyName":"p","validationActions":["Deny"]}}]}"#;
 
-/// The lists of some clusters, each by the name of its file.
+/// The lists of some clusters, each by the name of its file. `secret`, `folder` and `broken` are not read.
 #[derive(Drop)]
 pub struct Clusters;
 
-impl Files for Clusters {
+impl ReadableFiles for Clusters {
     ghost use Rattle.std.specs.Prelude.{None};
 
     ghost known = { λ _. None };
 
-    fn read(&mut self, alloc: Global, name: &str) -> Result<Vec<u8>, FileError> {
+    fn read_file(&mut self, alloc: Global, name: &str) -> Result<Vec<u8>, FileReadError> {
         let text = match name {
             "policies" => POLICIES,
             "bindings" => BINDINGS,
@@ -88,12 +88,11 @@ impl Files for Clusters {
             "condition" => CONDITION,
             "no-kind" => NO_KIND,
             "wide" => WIDE,
-            _ => return Err(FileError::Failed),
+            "secret" => return Err(FileReadError::Failed(FileFailure::PermissionDenied)),
+            "folder" => return Err(FileReadError::Failed(FileFailure::IsADirectory)),
+            "broken" => return Err(FileReadError::Failed(FileFailure::Other)),
+            _ => return Err(FileReadError::Failed(FileFailure::NotFound)),
         };
         Ok(Vec::from_slice(alloc, text.as_bytes())?)
-    }
-
-    fn write(&mut self, _name: &str, _bytes: &[u8]) -> Result<(), FileError> {
-        Err(FileError::Failed)
     }
 }

@@ -1,6 +1,6 @@
 //! The state of a cluster with one binding.
 
-use review_runner::{FileError, Files};
+use host::{FileFailure, FileReadError, ReadableFiles};
 use std::alloc::Global;
 
 const HEAD: &str = r#"{"apiVersion":"v1","kind":"List","items":[
@@ -20,23 +20,19 @@ pub struct OneBinding<'a> {
     pub binding: &'a str,
 }
 
-impl Files for OneBinding<'_> {
+impl ReadableFiles for OneBinding<'_> {
     ghost use Rattle.std.specs.Prelude.{None};
 
     ghost known = { λ _. None };
 
-    fn read(&mut self, alloc: Global, name: &str) -> Result<Vec<u8>, FileError> {
+    fn read_file(&mut self, alloc: Global, name: &str) -> Result<Vec<u8>, FileReadError> {
         if name != "state" {
-            return Err(FileError::Failed);
+            return Err(FileReadError::Failed(FileFailure::NotFound));
         }
         let mut text = Vec::from_slice(alloc, HEAD.as_bytes())?;
         for part in [self.policy, ",\n", self.binding, ",\n", OBJECTS, "]}"] {
             text.extend_from_slice(part.as_bytes())?;
         }
         Ok(text)
-    }
-
-    fn write(&mut self, _name: &str, _bytes: &[u8]) -> Result<(), FileError> {
-        Err(FileError::Failed)
     }
 }

@@ -12,8 +12,9 @@ pub struct OneFile<'a> {
 impl Files for OneFile<'_> {
     ghost use Rattle.std.specs.Prelude.{Some, None, codes, false, if◌then◌else◌};
     ghost use Rattle.std.specs.Str.{bytes_eq};
+    ghost use Rattle.host.specs.declared.file_failure.FileFailure.TheVariants.{NotFound};
 
-    ghost known = { λ f. Some (record { holds = λ name. (if bytes_eq name (codes "a.img") then Some f.bytes.now else None); takes = λ _. false }) };
+    ghost known = { λ f. Some (record { holds = λ name. (if bytes_eq name (codes "a.img") then Some f.bytes.now else None); takes = λ _. false; unread = λ _. NotFound }) };
 
     fn read(&mut self, alloc: Global, name: &str) -> Result<Vec<u8>, FileError> {
         if name == "a.img" {

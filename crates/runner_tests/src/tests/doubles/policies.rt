@@ -1,6 +1,6 @@
 //! Policies in files.
 
-use review_runner::{FileError, Files};
+use host::{FileFailure, FileReadError, ReadableFiles};
 use std::alloc::{AllocError, Global};
 
 const FEW: &str =
@@ -83,12 +83,12 @@ fn deep_policy(alloc: Global, name: &str) -> Result<Option<Vec<u8>>, AllocError>
 #[derive(Drop)]
 pub struct Policies;
 
-impl Files for Policies {
+impl ReadableFiles for Policies {
     ghost use Rattle.std.specs.Prelude.{None};
 
     ghost known = { λ _. None };
 
-    fn read(&mut self, alloc: Global, name: &str) -> Result<Vec<u8>, FileError> {
+    fn read_file(&mut self, alloc: Global, name: &str) -> Result<Vec<u8>, FileReadError> {
         if let Some(text) = deep_policy(alloc, name)? {
             return Ok(text);
         }
@@ -104,12 +104,8 @@ impl Files for Policies {
             "bytes" => BYTES,
             "untold" => UNTOLD,
             "none" => "no",
-            _ => return Err(FileError::Failed),
+            _ => return Err(FileReadError::Failed(FileFailure::NotFound)),
         };
         Ok(Vec::from_slice(alloc, text.as_bytes())?)
-    }
-
-    fn write(&mut self, _name: &str, _bytes: &[u8]) -> Result<(), FileError> {
-        Err(FileError::Failed)
     }
 }
