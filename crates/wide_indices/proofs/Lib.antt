@@ -1,0 +1,3 @@
+-- Proofs of wide_indices: the list of their modules.
+pub mod Indexed
+pub mod Tabled
