@@ -3,7 +3,7 @@ use Rattle.std.specs.Prelude.{◌≡◌, ℕ, List, ◌++◌, codes, Option, Som
 use Rattle.std.specs.declared.alloc.Global.{Global}
 use Rattle.clap.specs.Words.{Text}
 use Rattle.host.specs.ErrorCodes.{failure_text}
-use Rattle.host.specs.FileSystem.{FileSystem, IsReading, IsUnread}
+use Rattle.host.specs.FileSystem.{FileSystem, IsReading, IsReadFailure}
 use Rattle.host.specs.declared.file_read_error.FileReadError.{FileReadError, TheVariants.Failed}
 use Rattle.host.specs.declared.file_read_error.FileReadError.TheVariants as read_error
 use Rattle.cli.specs.GivenFiles.{IsReadingGiven}
@@ -45,7 +45,7 @@ IsRefusalOf name fault (Cluster _) = ⊥
 -- the refusal of the file of this name, which is not read
 pub record IsFileUnread (known : Option FileSystem) (name : Text) (r : StartRefusal) : Type 0 where
   pub error : FileReadError
-  pub reading : IsUnread known name error
+  pub reading : IsReadFailure known name error
   pub told : IsRefusalOf name (fault_of_read error) r
 
 -- the refusal of an optional file, which is not read

@@ -9,7 +9,7 @@ use Rattle.admission.specs.declared.language.Language.{Language, TheVariants.Pro
 use Rattle.admission.specs.declared.wide_refusal.WideRefusal.{WideRefusal}
 use Rattle.policy_glue.specs.OneImage.{OneImage}
 use Rattle.wide_policy.specs.declared.message_rule.MessageRule.{MessageRule}
-use Rattle.host.specs.FileSystem.{FileSystem, IsReading, IsUnread}
+use Rattle.host.specs.FileSystem.{FileSystem, IsReading, IsReadFailure}
 use Rattle.host.specs.declared.file_read_error.FileReadError.{FileReadError}
 use Rattle.admission.specs.declared.policy_refusal.PolicyRefusal.{PolicyRefusal}
 use Rattle.gatekeeper_runner.specs.FileFaults.{IsRefusalOf, IsUnreadGiven, fault_of_read}
@@ -30,7 +30,7 @@ pub data Opens (known : Option FileSystem) (language : Language) : List Text →
 
 -- what is wrong with a file that gives no policy of a language
 pub data HasFileFault (known : Option FileSystem) (language : Language) (name : Text) : FileFault → Type 0 where
-  unread : (e : FileReadError) → IsUnread known name e → HasFileFault known language name (fault_of_read e)
+  unread : (e : FileReadError) → IsReadFailure known name e → HasFileFault known language name (fault_of_read e)
   refused : {document : List ℕ} {e : PolicyRefusal} → language ≡ Profile → IsReading known name (Ok document)
       → IsPolicyRefused document e → HasFileFault known language name (Refused e)
   refused_wide : {rule : MessageRule} {document : List ℕ} {e : WideRefusal} → language ≡ Wide rule

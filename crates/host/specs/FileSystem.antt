@@ -35,14 +35,14 @@ abbrev pub IsReading : Option FileSystem → List ℕ → FileRead → Type 0
 IsReading known name reading = (f : FileSystem) → known ≡ Some f → ReadsFile (f.holds name) reading
 
 -- the error is a possible one of a read of this name: there are no bytes, and this is the reason
-abbrev pub IsUnread : Option FileSystem → List ℕ → FileReadError → Type 0
-IsUnread known name (read_error.Failed why) = (f : FileSystem) → known ≡ Some f → (f.holds name ≡ None) × (why ≡ f.unread name)
-IsUnread known name read_error.Memory = Unit {0}
+abbrev pub IsReadFailure : Option FileSystem → List ℕ → FileReadError → Type 0
+IsReadFailure known name (read_error.Failed why) = (f : FileSystem) → known ≡ Some f → (f.holds name ≡ None) × (why ≡ f.unread name)
+IsReadFailure known name read_error.Memory = Unit {0}
 
 -- the bytes of the file with this name by the code, or why it is not read
 abbrev pub ReadsOrFails : Option FileSystem → List ℕ → Result (Vec ℕ Global) FileReadError → Type 0
 ReadsOrFails known name (Ok bytes) = IsReading known name (Ok bytes.items)
-ReadsOrFails known name (Err e) = IsUnread known name e
+ReadsOrFails known name (Err e) = IsReadFailure known name e
 
 -- ---- writes
 

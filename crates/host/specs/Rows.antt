@@ -3,7 +3,7 @@ use Rattle.std.specs.Prelude.{◌≡◌, ℕ, Bool, List, [], ◌∷◌, Option,
 use Rattle.std.specs.Str.{bytes_eq}
 use Rattle.std.specs.declared.io.ErrorKind.TheVariants as kind
 use Rattle.host.specs.ErrorCodes.{failure_of, failure_text, file_error_code, order_error_code}
-use Rattle.host.specs.FileSystem.{FileSystem, IsReading, IsSame, IsUnread, IsWriting, KeepsFiles, ReadsFile, AnswersWrite, with_file}
+use Rattle.host.specs.FileSystem.{FileSystem, IsReading, IsSame, IsReadFailure, IsWriting, KeepsFiles, ReadsFile, AnswersWrite, with_file}
 use Rattle.host.specs.declared.file_error.FileError.TheVariants.{Failed, Memory}
 use Rattle.host.specs.declared.file_failure.FileFailure.{FileFailure}
 use Rattle.host.specs.declared.file_failure.FileFailure.TheVariants.{NotFound, PermissionDenied, IsADirectory, Other}
@@ -56,11 +56,11 @@ pub record FileRowsStand : Type 0 where
   pub known_read_of_another : IsReading (Some files) first (Ok []) → ⊥
   pub unknown_read : IsReading None first (Ok [])
   -- reasons
-  pub unread : IsUnread (Some files) third (read_error.Failed IsADirectory)
-  pub unread_for_another_reason : IsUnread (Some files) third (read_error.Failed NotFound) → ⊥
-  pub unread_though_held : IsUnread (Some files) first (read_error.Failed NotFound) → ⊥
-  pub unread_without_memory : IsUnread (Some files) first read_error.Memory
-  pub unread_of_unknown : IsUnread None first (read_error.Failed Other)
+  pub unread : IsReadFailure (Some files) third (read_error.Failed IsADirectory)
+  pub unread_for_another_reason : IsReadFailure (Some files) third (read_error.Failed NotFound) → ⊥
+  pub unread_though_held : IsReadFailure (Some files) first (read_error.Failed NotFound) → ⊥
+  pub unread_without_memory : IsReadFailure (Some files) first read_error.Memory
+  pub unread_of_unknown : IsReadFailure None first (read_error.Failed Other)
   -- the bytes of the written file, and of the others
   pub new_bytes : written.holds second ≡ Some (9 ∷ [])
   pub old_bytes : written.holds first ≡ Some (7 ∷ 8 ∷ [])

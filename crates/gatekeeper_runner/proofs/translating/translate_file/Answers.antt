@@ -1,7 +1,7 @@
 -- Proofs of `translating::translate_file`: the result meets the contract.
 
 use Rattle.gatekeeper_runner.proofs.Prelude.{is_err, subst, Text, unread}
-use Rattle.host.specs.FileSystem.{IsUnread}
+use Rattle.host.specs.FileSystem.{IsReadFailure}
 use Rattle.admission.specs.declared.language.Language.TheVariants.{Wide}
 use Rattle.gatekeeper_runner.specs.Starting.{no_memory}
 use Rattle.gatekeeper_runner.proofs.Opened.{untaken_by}
@@ -11,7 +11,7 @@ use Rattle.gatekeeper_runner.proofs.translating.translate_file.Goals as goal
 pub returns-in_err-document-clause-translates : goal.returns-in_err-document-clause-translates
 returns-in_err-document-clause-translates g c = rw (is_err c.from_residual.ensures.1)
     (unread _
-    (subst (λ (name : Text). IsUnread (g.F.ReadableFiles.known c.args.files.now) name c.in_err-document.field-0.0) c.as_str-file.ensures.value c.in_err-document.ensures.read))
+    (subst (λ (name : Text). IsReadFailure (g.F.ReadableFiles.known c.args.files.now) name c.in_err-document.field-0.0) c.as_str-file.ensures.value c.in_err-document.ensures.read))
 
 pub returns-in_err-policy-clause-translates : goal.returns-in_err-policy-clause-translates
 returns-in_err-policy-clause-translates g c =
