@@ -177,6 +177,14 @@ all_at P cs i c all is = grind (arith, get_or_from_slice_get, slice_get_within)
 pub one_of : {C : Type 0} (P : C → Type 0) (a b c : C) → (c ≡ a) ⊎ (c ≡ b) → P a → P b → P c
 one_of P a b c one first second = grind arith
 
+-- a copy of one of two machines of a run is one too
+pub copy_of : {C : Type 0} (place : C → ℕ) (state : C → State) (s r : State) (a b c d : C) → (c ≡ a) ⊎ (c ≡ b) → state a ≡ state_after (place a) r → r ≡ s
+    → state b ≡ state_after (place b) s → (place d ≡ place c) × (state d ≡ state c) → state d ≡ state_after (place d) s
+copy_of place state s r a b c d one first origin second copy =
+    copy.1
+    ∙ one_of (λ m. state m ≡ state_after (place m) s) a b c one (first ∙ ap (state_after (place a)) origin) second
+    ∙ ap (λ (i : ℕ). state_after i s) (sym copy.0)
+
 pub none_past : {C : Type 0} (cs : List C) (i : ℕ) → slice_get cs i ≡ None → i < length cs → ⊥
 none_past [] i none low = omega (arith, low)
 none_past (c ∷ cs) zero none low = let read : Some c ≡ None = none in cc
