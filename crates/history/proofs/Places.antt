@@ -1,5 +1,5 @@
 -- Places at which a machine is available.
-use Rattle.history.proofs.Prelude.{◌≡◌, ◌≢◌, ◌%◌, ◌++◌, append-nil, drop, ℕ, zero, suc, ◌+◌, ◌-◌, ◌<◌, ◌≤◌, Bool, true, false, not, List, [], ◌∷◌, length, refl, sym, ap, ◌∙◌, arith, subst, map, Option, Some, None, option_map, get_or, inl, inr, ◌⊎◌, common_steps, nat_tests, cases_lt, drop-append-le, drop-drop, drop-map, get_or-map, get_or_default, length-append, length-drop, length-map, map-append, append_assoc, Contains-append_cases, Contains-append_left, Contains-append_right, All-append, All-drop, All-nil, All-push, All-same, keep_last, get_or_from_slice_get, slice_get_within, All, Contains, slice_get, State, is_running, next_state, state_after, state_after-add, state_after-more, state_after-zero, stays_stopped, IsDue, HasPlacesAdded, IsNearest, IsReplay, IsSpared, KeepsPlaces, Checkpoints, Reaches, Past, places_of, with_place}
+use Rattle.history.proofs.Prelude.{◌≡◌, ◌≢◌, ◌%◌, ◌++◌, append-nil, drop, ℕ, zero, suc, ◌+◌, ◌-◌, ◌<◌, ◌≤◌, Bool, true, false, true≢false, not, List, [], ◌∷◌, length, refl, sym, ap, ◌∙◌, arith, subst, map, Option, Some, None, option_map, get_or, inl, inr, ◌⊎◌, common_steps, nat_tests, cases_lt, drop-append-le, drop-drop, drop-map, get_or-map, get_or_default, length-append, length-drop, length-map, map-append, append_assoc, Contains-append_cases, Contains-append_left, Contains-append_right, All-append, All-drop, All-nil, All-push, All-same, keep_last, get_or_from_slice_get, slice_get_within, All, Contains, slice_get, State, is_running, next_state, state_after, state_after-add, state_after-more, state_after-zero, stays_stopped, IsDue, HasPlacesAdded, IsNearest, IsReplay, IsSpared, KeepsPlaces, Checkpoints, Reaches, Past, places_of, with_place}
 
 -- of the first n of these places, none at or before k is greater than p
 abbrev pub NoneNearer : List ℕ → ℕ → ℕ → ℕ → Type 0
@@ -102,6 +102,10 @@ reaches_is s t n k here stops before = grind arith
 is_reached : (s t : State) (n k : ℕ) → t ≡ state_after n s → Reaches s n k → n < k → is_running t.status ≡ false
 is_reached s t n k here reaches before = grind arith
 
+-- a machine that does not reach a place at or after its own has to move
+pub must_move : (b : Bool) (s t : State) (n k : ℕ) → t ≡ state_after n s → ((n ≤ k) × (n < k → is_running t.status ≡ false) → b ≡ true) → b ≡ false → n ≤ k → Reaches s n k → ⊥
+must_move b s t n k here all said low reached = true≢false (sym (all (low, λ before. ap (λ (u : State). is_running u.status) here ∙ reached before)) ∙ said)
+
 -- no step is needed to stay
 pub replay_none : (h : Past) (k : ℕ) → h.place ≤ k → Reaches h.origin h.place k → IsReplay h k 0
 replay_none h k low reaches =
@@ -172,6 +176,14 @@ all_at P cs i c all is = grind (arith, get_or_from_slice_get, slice_get_within)
 
 pub one_of : {C : Type 0} (P : C → Type 0) (a b c : C) → (c ≡ a) ⊎ (c ≡ b) → P a → P b → P c
 one_of P a b c one first second = grind arith
+
+-- a copy of one of two machines of a run is one too
+pub copy_of : {C : Type 0} (place : C → ℕ) (state : C → State) (s r : State) (a b c d : C) → (c ≡ a) ⊎ (c ≡ b) → state a ≡ state_after (place a) r → r ≡ s
+    → state b ≡ state_after (place b) s → (place d ≡ place c) × (state d ≡ state c) → state d ≡ state_after (place d) s
+copy_of place state s r a b c d one first origin second copy =
+    copy.1
+    ∙ one_of (λ m. state m ≡ state_after (place m) s) a b c one (first ∙ ap (state_after (place a)) origin) second
+    ∙ ap (λ (i : ℕ). state_after i s) (sym copy.0)
 
 pub none_past : {C : Type 0} (cs : List C) (i : ℕ) → slice_get cs i ≡ None → i < length cs → ⊥
 none_past [] i none low = omega (arith, low)

@@ -1,7 +1,7 @@
 -- The names that these proofs use, from the library, the crates below and these definitions. It declares nothing.
 pub use Rattle.std.proofs.Common.{Bool, IsTrue, List, None, Option, Result, Some, ℕ, ℤ, [], ap, append-nil, arith}
 pub use Rattle.std.proofs.Common.{drop, false, get_or, if◌then◌else◌, inl, inr, is_ok, length, map, nat_eq, not}
-pub use Rattle.std.proofs.Common.{option_map, refl, rules, subst, suc, sym, true, zero, ◌%◌, ◌++◌, ◌+◌, ◌-◌, ◌<◌}
+pub use Rattle.std.proofs.Common.{option_map, refl, rules, subst, suc, sym, true, true≢false, zero, ◌%◌, ◌++◌, ◌+◌, ◌-◌, ◌<◌}
 pub use Rattle.std.proofs.Common.{◌==◌, ◌∙◌, ◌∷◌, ◌≡◌, ◌≢◌, ◌≤◌, ◌⊎◌}
 pub use Rattle.std.proofs.lemmas.Bool.{cases_lt}
 pub use Rattle.std.proofs.lemmas.Bool.Decides.{nat_tests}

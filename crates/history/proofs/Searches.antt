@@ -1,5 +1,5 @@
 -- Searches of a run for a place where it stops.
-use Rattle.history.proofs.Prelude.{◌≡◌, ◌≢◌, ℕ, zero, suc, ◌+◌, ◌-◌, ◌<◌, ◌≤◌, Bool, true, false, List, [], length, refl, sym, ap, subst, ◌∙◌, arith, inl, inr, ◌⊎◌, if◌then◌else◌, ◌==◌, ℤ, cases_lt, nat_tests, common_steps, State, is_running, state_after, goes_on, stays_stopped, first_stop, is_at, is_stop, last_stop, FirstIsLeast, IsFirst, IsLast, LastIsGreatest, Reaches}
+use Rattle.history.proofs.Prelude.{◌≡◌, ◌≢◌, ℕ, zero, suc, ◌+◌, ◌-◌, ◌<◌, ◌≤◌, Bool, true, false, true≢false, List, [], length, refl, sym, ap, subst, ◌∙◌, arith, inl, inr, ◌⊎◌, if◌then◌else◌, ◌==◌, ℤ, cases_lt, nat_tests, common_steps, State, is_running, state_after, goes_on, stays_stopped, first_stop, is_at, is_stop, last_stop, FirstIsLeast, IsFirst, IsLast, LastIsGreatest, Reaches}
 
 -- if no place is before another, there is only one
 only : (P : ℕ → Type 0) → ((i j : ℕ) → P i → P j → i < j → ⊥) → (x j : ℕ) → P x → (P j → j ≡ x) × (j ≡ x → P j)
@@ -77,6 +77,10 @@ last_of_none : (s : State) (k : ℕ) → 0 ≡ last_stop [] s k
 unfolding last_stop
 last_of_none s zero = refl
 last_of_none s (suc k) = rw (at_none (state_after k s).pc) (last_of_none s k)
+
+-- a list that is not empty, by its length
+pub not_empty : {A : Type 0} (xs : List A) (b : Bool) → b ≡ (length xs == 0) → b ≡ false → xs ≡ [] → ⊥
+not_empty xs b is said none = true≢false (sym (is ∙ ap (λ ys. length ys == 0) none) ∙ said)
 
 -- without slots the last place is place 0
 pub found_empty : (stops : List ℕ) (s : State) (k : ℕ) → (length stops == 0) ≡ true → 0 ≡ last_stop stops s k

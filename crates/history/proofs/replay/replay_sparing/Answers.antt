@@ -24,3 +24,17 @@ loop-checkpoints-preserved g c = record {
   here = step_on _ _ _ _ _ c.loop-checkpoints.invariant.here c.in_ok-step.ensures.ok.1 c.in_ok-step.ensures.ok.0;
   order = search rules;
 }
+
+-- ---- the other goals, which a search would find
+
+pub returns-in_err-step-clause-kept : goal.returns-in_err-step-clause-kept
+returns-in_err-step-clause-kept g c = kept_on _ _ _ c.loop-checkpoints.invariant.kept (kept_spared _ _ c.in_err-step.ensures.spared)
+
+pub returns-clause-kept : goal.returns-clause-kept
+returns-clause-kept g c = c.loop-checkpoints.invariant.kept
+
+pub returns-clause-here : goal.returns-clause-here
+returns-clause-here g c = c.loop-checkpoints.invariant.here
+
+pub returns-clause-order : goal.returns-clause-order
+returns-clause-order g c = c.loop-checkpoints.invariant.order

@@ -1,6 +1,6 @@
 -- Proof obligations of `first_after` (src/search.rt).
-use Rattle.history.proofs.Prelude.{◌+◌, ◌<◌, ◌∙◌, ap, arith, sym, state_after}
-use Rattle.history.proofs.Places.{kept_on, kept_spared, own_place, reaches_is, step_on}
+use Rattle.history.proofs.Prelude.{◌+◌, ◌<◌, ◌∙◌, ap, arith, refl, sym, state_after}
+use Rattle.history.proofs.Places.{kept_all, kept_on, kept_spared, must_move, own_place, reaches_is, step_on}
 use Rattle.history.proofs.Searches.{found_here, found_next, found_none, none_first, none_further}
 use Rattle.history.proofs.search.first_after.Goals as goal
 
@@ -43,3 +43,32 @@ loop-place-preserved g c =
 
 pub returns-clause-found : goal.returns-clause-found
 returns-clause-found g c = found_none _ _ _ _ _ c.loop-place.invariant.none c.requires.order c.loop-place-test.false
+
+-- ---- the other clauses, which a search would find
+
+pub returns-then-reaches-clause-kept : goal.returns-then-reaches-clause-kept
+returns-then-reaches-clause-kept g c = kept_all _ _ refl
+
+pub returns-then-reaches-clause-no_memory : goal.returns-then-reaches-clause-no_memory
+returns-then-reaches-clause-no_memory g c = λ reached. (refl, refl)
+
+pub returns-in_err-at-clause-no_memory : goal.returns-in_err-at-clause-no_memory
+returns-in_err-at-clause-no_memory g c = λ reached. absurd (must_move _ _ _ _ _ c.requires.here c.reaches.ensures.1 c.if-reaches.false (omega (arith, c.requires.order)) reached)
+
+pub returns-in_err-step-clause-kept : goal.returns-in_err-step-clause-kept
+returns-in_err-step-clause-kept g c = kept_on _ _ _ c.loop-place.invariant.kept (kept_spared _ _ c.in_err-step.ensures.spared)
+
+pub returns-in_err-step-clause-no_memory : goal.returns-in_err-step-clause-no_memory
+returns-in_err-step-clause-no_memory g c = λ reached. absurd (must_move _ _ _ _ _ c.requires.here c.reaches.ensures.1 c.if-reaches.false (omega (arith, c.requires.order)) reached)
+
+pub returns-then-is_stop-clause-kept : goal.returns-then-is_stop-clause-kept
+returns-then-is_stop-clause-kept g c = kept_on _ _ _ c.loop-place.invariant.kept (kept_spared _ _ c.in_ok-step.ensures.spared)
+
+pub returns-then-is_stop-clause-no_memory : goal.returns-then-is_stop-clause-no_memory
+returns-then-is_stop-clause-no_memory g c = λ reached. absurd (must_move _ _ _ _ _ c.requires.here c.reaches.ensures.1 c.if-reaches.false (omega (arith, c.requires.order)) reached)
+
+pub returns-clause-kept : goal.returns-clause-kept
+returns-clause-kept g c = c.loop-place.invariant.kept
+
+pub returns-clause-no_memory : goal.returns-clause-no_memory
+returns-clause-no_memory g c = λ reached. absurd (must_move _ _ _ _ _ c.requires.here c.reaches.ensures.1 c.if-reaches.false (omega (arith, c.requires.order)) reached)

@@ -1,7 +1,7 @@
 -- Proof obligations of `last_before` (src/search.rt).
-use Rattle.history.proofs.Prelude.{◌-◌, ◌<◌, ◌∙◌, ap, inl, inr, arith, sym, state_after}
-use Rattle.history.proofs.Places.{spared_on}
-use Rattle.history.proofs.Searches.{found_empty, found_first, found_in_stretch, last_low, none_in_stretch}
+use Rattle.history.proofs.Prelude.{◌-◌, ◌<◌, ◌∙◌, ap, inl, inr, arith, refl, sym, state_after}
+use Rattle.history.proofs.Places.{spared_all, spared_on}
+use Rattle.history.proofs.Searches.{found_empty, found_first, found_in_stretch, last_low, none_in_stretch, not_empty}
 use Rattle.history.proofs.search.last_before.Goals as goal
 use Rattle.history.proofs.search.last_before.Goals.{then-last-gt0-via-then-last-gt0, then-last-gt0-via-else-last-gt0+then-is_there}
 
@@ -35,3 +35,50 @@ loop-end-preserved g c = record {
 
 pub returns-clause-found : goal.returns-clause-found
 returns-clause-found g c = found_first _ _ _ _ c.loop-end.invariant.none (omega (arith, c.loop-end-test.false))
+
+-- ---- the other clauses, which a search would find
+
+pub returns-then-is_empty-clause-spared : goal.returns-then-is_empty-clause-spared
+returns-then-is_empty-clause-spared g c = spared_all _ _ refl
+
+pub returns-then-is_empty-clause-no_memory : goal.returns-then-is_empty-clause-no_memory
+returns-then-is_empty-clause-no_memory g c = λ start. (refl, refl)
+
+pub returns-then-is_empty-clause-no_stops : goal.returns-then-is_empty-clause-no_stops
+returns-then-is_empty-clause-no_stops g c = λ none. (refl, refl)
+
+pub returns-in_err-from-clause-spared : goal.returns-in_err-from-clause-spared
+returns-in_err-from-clause-spared g c = spared_on _ _ _ c.loop-end.invariant.spared c.in_err-from.ensures.spared
+
+pub returns-in_err-from-clause-no_memory : goal.returns-in_err-from-clause-no_memory
+returns-in_err-from-clause-no_memory g c = λ start. absurd (omega (arith, start, c.loop-end-test.true, c.loop-end.invariant.order))
+
+pub returns-in_err-from-clause-no_stops : goal.returns-in_err-from-clause-no_stops
+returns-in_err-from-clause-no_stops g c = λ none. absurd (not_empty _ _ c.is_empty.ensures c.if-is_empty.false none)
+
+pub returns-in_err-last-clause-spared : goal.returns-in_err-last-clause-spared
+returns-in_err-last-clause-spared g c = spared_on _ _ _ (spared_on _ _ _ c.loop-end.invariant.spared c.in_ok-from.ensures.spared) c.in_err-last.ensures.spared
+
+pub returns-in_err-last-clause-no_memory : goal.returns-in_err-last-clause-no_memory
+returns-in_err-last-clause-no_memory g c = λ start. absurd (omega (arith, start, c.loop-end-test.true, c.loop-end.invariant.order))
+
+pub returns-in_err-last-clause-no_stops : goal.returns-in_err-last-clause-no_stops
+returns-in_err-last-clause-no_stops g c = λ none. absurd (not_empty _ _ c.is_empty.ensures c.if-is_empty.false none)
+
+pub returns-then-last-gt0-clause-spared : goal.returns-then-last-gt0-clause-spared
+returns-then-last-gt0-clause-spared g c = spared_on _ _ _ (spared_on _ _ _ c.loop-end.invariant.spared c.in_ok-from.ensures.spared) c.in_ok-last.ensures.spared
+
+pub returns-then-last-gt0-clause-no_memory : goal.returns-then-last-gt0-clause-no_memory
+returns-then-last-gt0-clause-no_memory g c = λ start. absurd (omega (arith, start, c.loop-end-test.true, c.loop-end.invariant.order))
+
+pub returns-then-last-gt0-clause-no_stops : goal.returns-then-last-gt0-clause-no_stops
+returns-then-last-gt0-clause-no_stops g c = λ none. absurd (not_empty _ _ c.is_empty.ensures c.if-is_empty.false none)
+
+pub returns-clause-spared : goal.returns-clause-spared
+returns-clause-spared g c = c.loop-end.invariant.spared
+
+pub returns-clause-no_memory : goal.returns-clause-no_memory
+returns-clause-no_memory g c = λ start. (refl, c.loop-end.invariant.same start)
+
+pub returns-clause-no_stops : goal.returns-clause-no_stops
+returns-clause-no_stops g c = λ none. absurd (not_empty _ _ c.is_empty.ensures c.if-is_empty.false none)

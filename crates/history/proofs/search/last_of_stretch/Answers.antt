@@ -34,3 +34,17 @@ loop-place-preserved g c =
             | else-stands_at-2 w ↦ w.last-is ∙ last_stays _ _ _ _ _ _ here c.stands_at-in-loop-place.ensures w.if-stands_at-2.false c.loop-place.invariant.last
           ];
     }
+
+-- ---- the other goals, which a search would find
+
+pub returns-then-is_stopped-clause-spared : goal.returns-then-is_stopped-clause-spared
+returns-then-is_stopped-clause-spared g c = c.loop-place.invariant.spared
+
+pub step-requires : goal.step-requires
+step-requires g c = omega (arith, c.loop-place.invariant.at, c.requires.fits, c.loop-place-test.true)
+
+pub returns-in_err-step-clause-spared : goal.returns-in_err-step-clause-spared
+returns-in_err-step-clause-spared g c = spared_on _ _ _ c.loop-place.invariant.spared c.in_err-step.ensures.spared
+
+pub returns-clause-spared : goal.returns-clause-spared
+returns-clause-spared g c = c.loop-place.invariant.spared
