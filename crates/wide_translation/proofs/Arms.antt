@@ -1,6 +1,6 @@
 -- Operands, arguments and indices by their form.
 use Rattle.std.proofs.lemmas.Bool.Decides.{nat_tests}
-use Rattle.std.proofs.Common.{◌≡◌, ◌==◌, ◌∙◌, ap, ℕ, ℤ, pos, negsuc, ◌<◌, ◌<ℤ◌, ◌≤ℤ◌, Bool, true, false, List, []}
+use Rattle.std.proofs.Common.{◌≡◌, ◌==◌, ◌∙◌, ap, ℕ, ℤ, pos, negsuc, ◌<◌, ◌≤ℤ◌, Bool, true, false, List, []}
 use Rattle.std.proofs.Common.{◌∷◌}
 use Rattle.std.proofs.Common.{Option, Some, None, Result, Ok, Err, IsErr, IsErrAnd, length, get_or, map, refl, sym}
 use Rattle.std.proofs.Common.{subst, arith}
@@ -22,15 +22,15 @@ use Rattle.wide_meaning.specs.declared.function.Qualified.{Qualified}
 use Rattle.wide_meaning.specs.declared.function.Qualified.TheVariants as qualified
 use Rattle.wide_translation.specs.declared.carried.Carried.{Carried as CodeCarried}
 use Rattle.wide_translation.specs.declared.translation_error.TranslationError.{TranslationError}
-use Rattle.wide_translation.specs.Carried.{Carried, UnknownName, UnsignedInt, Translation, taken, refused}
+use Rattle.wide_translation.specs.Carried.{Carried, UnknownName, UnsignedInt, Translation, refused}
 use Rattle.wide_translation.specs.Declarations.{ReturnsCarried, IsRefusal}
 use Rattle.wide_translation.specs.Layers.{compared_uint, is_equality, is_of_sets, sets_test}
 use Rattle.wide_translation.specs.Lists.{sets_translation}
 use Rattle.wide_translation.specs.Scope.{WideScope}
-use Rattle.wide_translation.specs.Translated.{on_plain, equality, plain_binary, binary_carried, operand}
+use Rattle.wide_translation.specs.Translated.{on_plain, with_plain, equality, plain_binary, binary_carried, operand}
 use Rattle.wide_translation.specs.Translated.{function_carried, call_translation, qualified_translation}
 use Rattle.wide_translation.specs.Translated.{method_carried}
-use Rattle.wide_translation.specs.Translated.{index_carried, plain_index, count_index, count_literal}
+use Rattle.wide_translation.specs.Translated.{index_carried, count_index, count_literal}
 unfoldable use Rattle.wide_translation.specs.Translated.{translated, all_translated}
 use Rattle.wide_translation.proofs.WideViews.{view_list}
 
@@ -162,31 +162,15 @@ pub two_sets : (q : Qualified) (n : List ℕ) (s : WideScope) (es : List CodeWid
 two_sets q n s es a b r h is also of x =
     returns_at _ _ r (sets_of_two q n _ _ of ∙ ap (qualified_translation q n) (sym (all_of_two s es a b h is also))) x
 
--- the first of them is refused, or translated
-pub first_refused : (q : Qualified) (n : List ℕ) (s : WideScope) (es : List CodeWide) (a b : CodeWide) (e : TranslationError) → length es ≡ 2
-    → a ≡ get_or es 0 a → b ≡ get_or es 1 b → is_of_sets q ≡ true → IsRefusal (translated s (wide.view a)) e
-    → IsRefusal (qualified_translation q n (all_translated s (wide.wides (map wide.view es)))) e
-first_refused q n s es a b e h is also of x =
-    λ m. ap (qualified_translation q n) (all_of_two s es a b h is also) ∙ sym (sets_of_two q n _ _ of) ∙ (λ j. sets_translation (sets_test q) (x m j) (translated s (wide.view b)))
-
-pub first_taken : (q : Qualified) (n : List ℕ) (s : WideScope) (es : List CodeWide) (a b : CodeWide) (c : Carried) (r : Result CodeCarried TranslationError) → length es ≡ 2
-    → a ≡ get_or es 0 a → b ≡ get_or es 1 b → is_of_sets q ≡ true → translated s (wide.view a) ≡ taken c
-    → ReturnsCarried (sets_translation (sets_test q) (taken c) (translated s (wide.view b))) r → ReturnsCarried (qualified_translation q n (all_translated s (wide.wides (map wide.view es)))) r
-first_taken q n s es a b c r h is also of t x =
-    two_sets q n s es a b r h is also of (returns_at _ _ r (λ j. sets_translation (sets_test q) (sym t j) (translated s (wide.view b))) x)
-
 pub two_refused : (q : Qualified) (n : List ℕ) (s : WideScope) (es : List CodeWide) (a b : CodeWide) (e : TranslationError) → length es ≡ 2
     → a ≡ get_or es 0 a → b ≡ get_or es 1 b → is_of_sets q ≡ false → IsRefusal (refused (UnknownName n)) e
     → IsRefusal (qualified_translation q n (all_translated s (wide.wides (map wide.view es)))) e
 two_refused q n s es a b e h is also of x =
     λ m. ap (qualified_translation q n) (all_of_two s es a b h is also) ∙ none_of_two q n _ _ of ∙ x m
 
-pub call_taken : (f : Option Function) (g : Function) (n : List ℕ) (t : Translation) (c : Carried) (r : Result CodeCarried TranslationError) → f ≡ Some g → t ≡ taken c
-    → ReturnsCarried (on_plain c (function_carried g)) r → ReturnsCarried (call_translation f n (t ∷ [])) r
-call_taken f g n t c r p q x = returns_at _ _ r (sym (λ j. call_translation (p j) n (q j ∷ []))) x
-
-pub call_refused : (f : Option Function) (g : Function) (n : List ℕ) (t : Translation) (e : TranslationError) → f ≡ Some g → IsRefusal t e → IsRefusal (call_translation f n (t ∷ [])) e
-call_refused f g n t e p x = λ m. (λ j. call_translation (p j) n (x m j ∷ []))
+pub call_of_one : (f : Option Function) (g : Function) (n : List ℕ) (t : Translation) (r : Result CodeCarried TranslationError) → f ≡ Some g
+    → ReturnsCarried (with_plain t (function_carried g)) r → ReturnsCarried (call_translation f n (t ∷ [])) r
+call_of_one f g n t r p x = returns_at _ _ r (sym (λ j. call_translation (p j) n (t ∷ []))) x
 
 -- an error that `?` passes on
 pub passed_on : (t : Translation) (e : TranslationError) (r : Result CodeCarried TranslationError) → IsRefusal t e → IsErr r → IsErrAnd r (λ x. x ≡ e) → ReturnsCarried t r

@@ -10,16 +10,15 @@ use Rattle.wide_reader.specs.Tree as wide
 use Rattle.wide_reader.specs.declared.wide.Access.{Access, TheVariants.Plain, TheVariants.Optional}
 use Rattle.wide_reader.specs.declared.wide.Wide.{Wide as CodeWide}
 use Rattle.wide_kinds.specs.declared.kind.ValueKind.{ValueKind}
-use Rattle.wide_kinds.specs.declared.kind.ValueKind.TheVariants as kind
 use Rattle.wide_translation.specs.Carried.{Carried, plain, guarded, listed, WideFault, OptionalValue, OptionalEntry, Translation, taken, refused}
-use Rattle.wide_translation.specs.Declarations.{with_part, part_step, parts_of, IsRefusal, ReturnsCarried, fault_of, is_memory}
+use Rattle.wide_translation.specs.Declarations.{with_part, parts_of, IsRefusal, ReturnsCarried, fault_of, is_memory}
 use Rattle.wide_translation.specs.declared.translation_error.TranslationError.{TranslationError}
 use Rattle.wide_translation.specs.declared.carried.Carried.{Carried as CodeCarried}
 use Rattle.wide_translation.specs.Parts.{entries_push, on_plain}
 use Rattle.wide_translation.specs.Forms.{empty_tree, first_tree}
 use Rattle.wide_translation.specs.Scope.{WideScope}
 use Rattle.wide_translation.specs.Segments.{entries_more}
-use Rattle.wide_translation.specs.Translated.{no_parts_left, entry_part, optional_part, Pairs, pairs, no_pairs, optional_more, keyed_more, entry_more, map_translation}
+use Rattle.wide_translation.specs.Translated.{no_parts_left, optional_part, Pairs, pairs, no_pairs, optional_more, keyed_more, entry_more, map_translation}
 unfoldable use Rattle.wide_translation.specs.Translated.{translated, entries_translated}
 use Rattle.wide_translation.specs.declared.entry_part.EntryPart.{EntryPart}
 use Rattle.wide_translation.specs.declared.entry_part.EntryPart.TheVariants as entry
@@ -77,22 +76,20 @@ entries_pairs [] = refl
 entries_pairs (d ∷ done) = ap (with_part d) (entries_pairs done)
 
 -- the kind of a key does not matter
-any_key : (o : Access) (k l : ValueKind) (a : Tree) (c : Carried) (ps : Pairs) → entry_more o (taken (plain k a)) (taken c) ps ≡ entry_more o (taken (plain l a)) (taken c) ps
+pub any_key : (o : Access) (k l : ValueKind) (a : Tree) (c : Carried) (ps : Pairs) → entry_more o (taken (plain k a)) (taken c) ps ≡ entry_more o (taken (plain l a)) (taken c) ps
 any_key Plain k l a (plain i b) (pairs ps) = refl
 any_key Plain k l a (plain i b) (no_pairs e) = refl
 any_key Plain k l a (guarded i g v) ps = refl
 any_key Plain k l a (listed i m) ps = refl
 any_key Optional k l a c ps = refl
 
-pub entry_next : (s : WideScope) (given : List (Access × CodeWide × CodeWide)) (i : ℕ) (x : Access × CodeWide × CodeWide) (k : ValueKind) (a : Tree) (c : Carried) (p : EntryPart) (done : List EntryPart)
-    → i < length given → x ≡ get_or given i x → translated s (wide.view x.1) ≡ taken (plain k a) → translated s (wide.view x.2) ≡ taken c
-    → ((ps : Pairs) → entry_more x.0 (taken (plain kind.Dyn a)) (taken c) ps ≡ with_part p ps)
+pub entry_next : (s : WideScope) (given : List (Access × CodeWide × CodeWide)) (i : ℕ) (x : Access × CodeWide × CodeWide) (p : EntryPart) (done : List EntryPart)
+    → i < length given → x ≡ get_or given i x → ((ps : Pairs) → entry_more x.0 (translated s (wide.view x.1)) (translated s (wide.view x.2)) ps ≡ with_part p ps)
     → entries_more done (given_entries s (drop i given)) ≡ entries_more (done ++ p ∷ []) (given_entries s (drop (i + 1) given))
 unfolding translated
-entry_next s given i x k a c p done h e q r f =
+entry_next s given i x p done h e f =
     ap (λ ys. entries_more done (given_entries s ys)) (dropped given i x h e)
-    ∙ (λ j. entries_more done (entry_more x.0 (q j) (r j) (given_entries s (drop (i + 1) given))))
-    ∙ ap (entries_more done) (any_key x.0 k kind.Dyn a c (given_entries s (drop (i + 1) given)) ∙ f (given_entries s (drop (i + 1) given)))
+    ∙ ap (entries_more done) (f (given_entries s (drop (i + 1) given)))
     ∙ entries_entry done p (given_entries s (drop (i + 1) given))
 
 -- an entry that is refused, from what its parts are
@@ -124,11 +121,6 @@ pub entry_value_refused : (o : Access) (t u : Translation) (k : ValueKind) (a : 
 entry_value_refused Plain t u k a f y q r = λ j. entry_more Plain (q j) (r j) y
 entry_value_refused Optional t u k a f y q r = λ j. entry_more Optional (q j) (r j) y
 
--- an entry whose parts are translated, but is refused
-pub entry_faulty : (o : Access) (t u : Translation) (k : ValueKind) (a : Tree) (c : Carried) (f : WideFault) (y : Pairs) → t ≡ taken (plain k a) → u ≡ taken c
-    → ((ps : Pairs) → entry_more o (taken (plain kind.Dyn a)) (taken c) ps ≡ no_pairs f) → entry_more o t u y ≡ no_pairs f
-entry_faulty o t u k a c f y q r n = (λ j. entry_more o (q j) (r j) y) ∙ any_key o k kind.Dyn a c y ∙ n y
-
 -- no more entries
 pub entries_end : (s : WideScope) (given : List (Access × CodeWide × CodeWide)) (i : ℕ) (done : List EntryPart) → length given ≤ i
     → map_translation (entries_more done (given_entries s (drop i given))) ≡ map_translation (pairs (parts_of done))
@@ -149,12 +141,12 @@ pub key_is_optional : (o : Access) (t u : Translation) (c : Carried) (y : Pairs)
 key_is_optional o t u c y q n = key_optional o t u c y q (λ k a e. no_plain c n k a e)
 
 -- one more entry of the code
-pub entries_next : (s : WideScope) (given : List (Access × CodeWide × CodeWide)) (i : ℕ) (x : Access × CodeWide × CodeWide) (k : ValueKind) (a : Tree) (c : Carried) (p : EntryPart) (done more : List EntryPart) (all : Pairs)
-    → all ≡ entries_more done (given_entries s (drop i given)) → i < length given → x ≡ get_or given i x → translated s (wide.view x.1) ≡ taken (plain k a) → translated s (wide.view x.2) ≡ taken c
-    → ((ps : Pairs) → entry_more x.0 (taken (plain kind.Dyn a)) (taken c) ps ≡ with_part p ps) → more ≡ done ++ p ∷ []
+pub entries_next : (s : WideScope) (given : List (Access × CodeWide × CodeWide)) (i : ℕ) (x : Access × CodeWide × CodeWide) (p : EntryPart) (done more : List EntryPart) (all : Pairs)
+    → all ≡ entries_more done (given_entries s (drop i given)) → i < length given → x ≡ get_or given i x
+    → ((ps : Pairs) → entry_more x.0 (translated s (wide.view x.1)) (translated s (wide.view x.2)) ps ≡ with_part p ps) → more ≡ done ++ p ∷ []
     → all ≡ entries_more more (given_entries s (drop (i + 1) given))
-entries_next s given i x k a c p done more all inv h is q r f w =
-    inv ∙ entry_next s given i x k a c p done h is q r f ∙ ap (λ d. entries_more d (given_entries s (drop (i + 1) given))) (sym w)
+entries_next s given i x p done more all inv h is f w =
+    inv ∙ entry_next s given i x p done h is f ∙ ap (λ d. entries_more d (given_entries s (drop (i + 1) given))) (sym w)
 
 -- all entries
 pub entries_whole : (s : WideScope) (given : List (Access × CodeWide × CodeWide)) (i : ℕ) (done slice : List EntryPart) (all : Pairs) (r : Result CodeCarried TranslationError)

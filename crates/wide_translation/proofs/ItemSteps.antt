@@ -1,7 +1,7 @@
 -- Items of list literals and entries of map literals, one more at a time.
 use Rattle.std.proofs.Common.{◌≡◌, ℕ, zero, suc, false, ◌+◌, ◌<◌, ◌≤◌, List, [], ◌∷◌, ◌++◌, Option, Some, None}
 use Rattle.std.proofs.Common.{length}
-use Rattle.std.proofs.Common.{get_or, drop, map, ap, sym, ◌∙◌, refl, arith}
+use Rattle.std.proofs.Common.{get_or, drop, map, ap, sym, subst, ◌∙◌, refl, arith, Result}
 use Rattle.std.proofs.lemmas.List.{map-append}
 use Rattle.std.specs.declared.alloc.Global.{Global}
 use Rattle.std.specs.declared.vec.Vec.{Vec}
@@ -12,20 +12,18 @@ use Rattle.cel_reader.specs.declared.operator.BinaryOperator.{TheVariants.Add}
 use Rattle.wide_reader.specs.Tree as wide
 use Rattle.wide_reader.specs.declared.wide.Access.{Access, TheVariants.Plain, TheVariants.Optional}
 use Rattle.wide_reader.specs.declared.wide.Wide.{Wide as CodeWide}
-use Rattle.wide_kinds.specs.declared.kind.ValueKind.{ValueKind}
 use Rattle.wide_kinds.specs.declared.kind.ValueKind.TheVariants as kind
-use Rattle.wide_translation.specs.Carried.{Carried, plain, guarded, listed, WideFault, Unsupported, OptionalValue}
+use Rattle.wide_translation.specs.Carried.{plain, listed, WideFault}
 use Rattle.wide_translation.specs.Carried.{Translation, taken, refused}
-use Rattle.wide_translation.specs.Declarations.{IsRefusal, fault_of, is_memory, carried_view}
+use Rattle.wide_translation.specs.Declarations.{IsRefusal, ReturnsCarried, fault_of, is_memory}
 use Rattle.wide_translation.specs.declared.carried.Carried.{Carried as CodeCarried}
-use Rattle.wide_translation.specs.declared.carried.Carried.TheVariants as code
 use Rattle.wide_translation.specs.Segments.{segment_view, segment_tree, joined, items_more, after}
-use Rattle.wide_translation.specs.Segments.{after_parts as parts_of, joined_parts, entries_more}
+use Rattle.wide_translation.specs.Segments.{after_parts as parts_of, joined_parts}
 use Rattle.wide_translation.specs.declared.lists.ListParts.{ListParts}
 use Rattle.wide_translation.specs.declared.translation_error.TranslationError.{TranslationError}
 use Rattle.wide_translation.specs.Scope.{WideScope}
-use Rattle.wide_translation.specs.Translated.{Parts, parts, no_parts, joined_tree, list_more, one_more, Pairs, pairs}
-use Rattle.wide_translation.specs.Translated.{no_pairs, entry_more, as_list, list_translation, map_translation}
+use Rattle.wide_translation.specs.Translated.{Parts, parts, no_parts, joined_tree, list_more, one_more}
+use Rattle.wide_translation.specs.Translated.{list_translation}
 unfoldable use Rattle.wide_translation.specs.Translated.{translated, items_translated, entries_translated}
 
 pub dropped : {A : Type 0} (xs : List A) (i : ℕ) (x : A) → i < length xs → x ≡ get_or xs i x → drop i xs ≡ x ∷ drop (i + 1) xs
@@ -130,37 +128,25 @@ abbrev pub given_items : WideScope → List (Access × CodeWide) → Parts
 given_items s es = items_translated s (wide.items (map wide.item_view es))
 
 -- one more item
-pub item_next : (s : WideScope) (given : List (Access × CodeWide)) (i : ℕ) (x : Access × CodeWide) (c : Carried) (before more : Parts → Parts) → i < length given → x ≡ get_or given i x
-    → translated s (wide.view x.1) ≡ taken c → ((ps : Parts) → before (one_more x.0 (taken c) ps) ≡ more ps)
+pub item_next : (s : WideScope) (given : List (Access × CodeWide)) (i : ℕ) (x : Access × CodeWide) (before more : Parts → Parts) → i < length given → x ≡ get_or given i x
+    → ((ps : Parts) → before (one_more x.0 (translated s (wide.view x.1)) ps) ≡ more ps)
     → before (given_items s (drop i given)) ≡ more (given_items s (drop (i + 1) given))
 unfolding translated
-item_next s given i x c before more h e q r =
-    ap (λ ys. before (given_items s ys)) (dropped given i x h e) ∙ (λ j. before (one_more x.0 (q j) (given_items s (drop (i + 1) given)))) ∙ r (given_items s (drop (i + 1) given))
+item_next s given i x before more h e r =
+    ap (λ ys. before (given_items s ys)) (dropped given i x h e) ∙ r (given_items s (drop (i + 1) given))
 
 -- an item that is refused
-part_refused : (o : Access) (f : WideFault) (x : Parts) → one_more o (refused f) x ≡ no_parts f
+pub part_refused : (o : Access) (f : WideFault) (x : Parts) → one_more o (refused f) x ≡ no_parts f
 part_refused Plain f x = refl
 part_refused Optional f x = refl
 
 pub item_refused : (s : WideScope) (given : List (Access × CodeWide)) (i : ℕ) (x : Access × CodeWide) (f : WideFault) (ps : List (List Tree × Tree)) (last : List Tree)
-    → i < length given → x ≡ get_or given i x → translated s (wide.view x.1) ≡ refused f → list_translation (after ps last (given_items s (drop i given))) ≡ refused f
-unfolding translated
-item_refused s given i x f ps last h e q =
-    ap list_translation
-    (ap (λ ys. after ps last (given_items s ys)) (dropped given i x h e)
-    ∙ (λ j. after ps last (one_more x.0 (q j) (given_items s (drop (i + 1) given))))
-    ∙ ap (after ps last) (part_refused x.0 f (given_items s (drop (i + 1) given)))
-    ∙ after_fault ps last f)
-
--- an item that is not allowed there
-pub item_misplaced : (s : WideScope) (given : List (Access × CodeWide)) (i : ℕ) (x : Access × CodeWide) (c : Carried) (f : WideFault) (ps : List (List Tree × Tree)) (last : List Tree)
-    → i < length given → x ≡ get_or given i x → translated s (wide.view x.1) ≡ taken c → ((y : Parts) → one_more x.0 (taken c) y ≡ no_parts f)
+    → i < length given → x ≡ get_or given i x → ((y : Parts) → one_more x.0 (translated s (wide.view x.1)) y ≡ no_parts f)
     → list_translation (after ps last (given_items s (drop i given))) ≡ refused f
 unfolding translated
-item_misplaced s given i x c f ps last h e q r =
+item_refused s given i x f ps last h e r =
     ap list_translation
     (ap (λ ys. after ps last (given_items s ys)) (dropped given i x h e)
-    ∙ (λ j. after ps last (one_more x.0 (q j) (given_items s (drop (i + 1) given))))
     ∙ ap (after ps last) (r (given_items s (drop (i + 1) given)))
     ∙ after_fault ps last f)
 
@@ -173,16 +159,14 @@ items_end s given i ps last h = ap (λ ys. list_translation (after ps last (give
 -- ---- what the code returns, from its list so far
 
 pub items_refusal : (s : WideScope) (given : List (Access × CodeWide)) (i : ℕ) (x : Access × CodeWide) (e : TranslationError) (so_far : ListParts) (all : Parts)
-    → all ≡ parts_of so_far (given_items s (drop i given)) → i < length given → x ≡ get_or given i x → IsRefusal (translated s (wide.view x.1)) e → IsRefusal (list_translation all) e
-items_refusal s given i x e so_far all inv h is r = λ m. ap list_translation inv ∙ item_refused s given i x (fault_of e) (map segment_view so_far.segments.items) (map node.view so_far.last.items) h is (r m)
+    → all ≡ parts_of so_far (given_items s (drop i given)) → i < length given → x ≡ get_or given i x
+    → (is_memory e ≡ false → (ps : Parts) → one_more x.0 (translated s (wide.view x.1)) ps ≡ no_parts (fault_of e)) → IsRefusal (list_translation all) e
+items_refusal s given i x e so_far all inv h is r =
+    λ m. ap list_translation inv ∙ item_refused s given i x (fault_of e) (map segment_view so_far.segments.items) (map node.view so_far.last.items) h is (r m)
 
-pub items_misplacement : (s : WideScope) (given : List (Access × CodeWide)) (i : ℕ) (x : Access × CodeWide) (c : Carried) (e : TranslationError) (so_far : ListParts) (all : Parts)
-    → all ≡ parts_of so_far (given_items s (drop i given)) → i < length given → x ≡ get_or given i x → translated s (wide.view x.1) ≡ taken c
-    → (is_memory e ≡ false → (ps : Parts) → one_more x.0 (taken c) ps ≡ no_parts (fault_of e)) → IsRefusal (list_translation all) e
-items_misplacement s given i x c e so_far all inv h is q r =
-    λ m. ap list_translation inv ∙ item_misplaced s given i x c (fault_of e) (map segment_view so_far.segments.items) (map node.view so_far.last.items) h is q (r m)
-
-pub items_whole : (s : WideScope) (given : List (Access × CodeWide)) (i : ℕ) (so_far : ListParts) (all : Parts) (t : Tree)
-    → all ≡ parts_of so_far (given_items s (drop i given)) → length given ≤ i → t ≡ joined_parts so_far → list_translation all ≡ taken (plain kind.List t)
-items_whole s given i so_far all t inv h is =
-    ap list_translation inv ∙ items_end s given i (map segment_view so_far.segments.items) (map node.view so_far.last.items) h ∙ ap (λ (u : Tree). taken (plain kind.List u)) (sym is)
+pub items_whole : (s : WideScope) (given : List (Access × CodeWide)) (i : ℕ) (so_far : ListParts) (all : Parts) (r : Result CodeCarried TranslationError)
+    → all ≡ parts_of so_far (given_items s (drop i given)) → length given ≤ i → ReturnsCarried (taken (plain kind.List (joined_parts so_far))) r
+    → ReturnsCarried (list_translation all) r
+items_whole s given i so_far all r inv h is =
+    subst (λ (t : Translation). ReturnsCarried t r)
+    (sym (ap list_translation inv ∙ items_end s given i (map segment_view so_far.segments.items) (map node.view so_far.last.items) h)) is

@@ -27,6 +27,7 @@ pub mod EntrySteps
 pub mod UseSteps
 pub mod PairNames
 pub mod PairSteps
-pub mod PairArms
 pub mod PairReturns
 pub mod IndexForms
+pub mod ArmReturns
+pub mod PartReturns

@@ -6,17 +6,19 @@ ghost use Rattle.cel_reader.specs.Tree as node;
 ghost use Rattle.cel_reader.specs.Tree.{view};
 ghost use Rattle.wide_reader.specs.declared.wide.Access.TheVariants as access_of;
 ghost use Rattle.wide_kinds.specs.declared.kind.ValueKind.TheVariants as kind;
-ghost use Rattle.wide_translation.specs.Carried.{listed, plain, taken};
-ghost use Rattle.wide_translation.specs.Declarations.{carried_view, fault_of, is_memory};
+ghost use Rattle.wide_translation.specs.Carried.{Translation, listed, plain, taken};
+ghost use Rattle.wide_translation.specs.Declarations.{ReturnsCarried, carried_view, fault_of, is_memory};
 ghost use Rattle.wide_translation.specs.Segments.{after_parts, joined_parts, segment_tree};
 ghost use Rattle.wide_translation.specs.Parts.{Parts, list_more, no_parts, one_more};
 
 use crate::calls::as_list;
 use crate::carried::Carried;
+use crate::composed::Part;
 use crate::translation_error::TranslationError;
 use crate::{build, built};
 use cel_reader::{BinaryOperator, Expr};
 use std::alloc::{AllocError, Global};
+use wide_kinds::ValueKind;
 use wide_reader::Access;
 
 /// The items of a list literal, as far as they are translated: those before each optional value, with its list, and those
@@ -97,9 +99,31 @@ impl ListParts {
         }
     }
 
+    /// Adds what an item was translated to.
+    #[tactic(auto, using(crate::proofs::ItemSteps::part_refused))]
+    pub(crate) fn add_part(
+        &mut self,
+        alloc: Global,
+        access: Access,
+        item: Part,
+    ) -> Result<(), TranslationError>
+        ensures added { OnOk result ((t : Translation) → ReturnsCarried t item → (ps : Parts) → after_parts self.old (one_more access t ps) ≡ after_parts self.new ps) }
+        ensures refused { IfErr result (λ e. is_memory e ≡ false → (t : Translation) → ReturnsCarried t item → (ps : Parts) → one_more access t ps ≡ no_parts (fault_of e)) }
+    {
+        self.add(alloc, access, item?)
+    }
+
+    /// The list literal of all items.
+    pub(crate) fn list(self, alloc: Global) -> Part
+        ensures { ReturnsCarried (taken (plain kind.List (joined_parts self))) result }
+    {
+        let tree = self.joined(alloc)?;
+        Ok(Carried::Plain(ValueKind::List, tree))
+    }
+
     /// The list of all items.
     #[tactic(auto, using(crate::proofs::ItemSteps::joined_popped, crate::proofs::ItemSteps::joined_none))]
-    pub(crate) fn joined(self, alloc: Global) -> Result<Expr, AllocError>
+    fn joined(self, alloc: Global) -> Result<Expr, AllocError>
         ensures { IfOk result (λ e. view e ≡ joined_parts self) }
     {
         let mut before = self.segments;

@@ -1,9 +1,10 @@
 //! The two iteration names of a macro.
 
-ghost use Rattle.std.specs.Prelude.{◌≡◌, ◌||◌, IfErr, IfOk, string_bytes};
+ghost use Rattle.std.specs.Prelude.{◌≡◌, ◌||◌, IfErr, IfOk, length, string_bytes};
 ghost use Rattle.wide_reader.specs.Tree.{view};
 ghost use Rattle.wide_translation.specs.Carried.{Translation};
-ghost use Rattle.wide_translation.specs.Declarations.{IsRefusal, scope_in, use_view};
+ghost use Rattle.wide_translation.specs.Declarations.{IsRefusal, place_view, scope_in, use_view};
+ghost use Rattle.wide_translation.specs.Names.{pair_name as pair_name_in};
 ghost use Rattle.wide_translation.specs.Pairs as specs;
 ghost use Rattle.wide_translation.specs.Translated.{unless_taken};
 ghost use Rattle.wide_translation.specs.Uses.{uses};
@@ -12,6 +13,8 @@ use crate::calls::taken_name;
 use crate::name_uses::uses;
 use crate::names::{Names, is_taken, pair_name};
 use crate::pair_use::PairUse;
+use crate::place::Place;
+use crate::together::three;
 use crate::translation_error::TranslationError;
 use std::alloc::{AllocError, Global};
 use wide_reader::Wide;
@@ -22,6 +25,15 @@ pub(crate) struct PairNames<'a> {
     pub(crate) used: PairUse,
     pub(crate) key: &'a str,
     pub(crate) value: &'a str,
+}
+
+/// The names inside of the macro, and how they are written.
+#[derive(Drop)]
+pub(crate) struct PairScope {
+    pub(crate) key: String,
+    pub(crate) value: String,
+    pub(crate) first: Place,
+    pub(crate) second: Place,
 }
 
 /// Nothing, if both names may be bound.
@@ -67,6 +79,32 @@ impl<'a> PairNames<'a> {
             key,
             value,
         }
+    }
+
+    /// The names inside of the macro, if the pair has this name.
+    fn scope_of(&self, alloc: Global, pair: &str) -> Result<PairScope, AllocError>
+        ensures { let u = use_view self.now.used in IfOk result (λ p. (string_bytes p.key ≡ self.now.key.now) × (string_bytes p.value ≡ self.now.value.now) × (place_view p.first ≡ specs.key_place u pair.now) × (place_view p.second ≡ specs.value_place u pair.now)) }
+    {
+        let (key, value, places) = three(
+            String::from_str(alloc, self.key),
+            String::from_str(alloc, self.value),
+            self.used.places(alloc, pair),
+        )?;
+        let (first, second) = places;
+        Ok(PairScope {
+            key,
+            value,
+            first,
+            second,
+        })
+    }
+
+    /// The names inside of the macro, inside of these names.
+    pub(crate) fn scope(&self, alloc: Global, names: &Names) -> Result<PairScope, AllocError>
+        ensures { let y = pair_name_in (length (scope_in names.now).names) in let u = use_view self.now.used in IfOk result (λ p. (string_bytes p.key ≡ self.now.key.now) × (string_bytes p.value ≡ self.now.value.now) × (place_view p.first ≡ specs.key_place u y) × (place_view p.second ≡ specs.value_place u y)) }
+    {
+        let pair = pair_name(alloc, names)?;
+        self.scope_of(alloc, pair.as_str())
     }
 
     /// The iteration name of the macro that the translation writes, inside of these names.

@@ -5,6 +5,7 @@ ghost use Rattle.wide_translation.specs.Declarations.{place_view, use_view};
 ghost use Rattle.wide_translation.specs.Pairs as specs;
 
 use crate::place::Place;
+use crate::together::both;
 use std::alloc::{AllocError, Global};
 use wide_kinds::ValueKind;
 
@@ -50,5 +51,12 @@ impl PairUse {
             PairUse::KeysOnly => Ok(Place::Unused),
             PairUse::Both => Ok(Place::Value(String::from_str(alloc, pair)?)),
         }
+    }
+
+    /// How both names are written.
+    pub(crate) fn places(self, alloc: Global, pair: &str) -> Result<(Place, Place), AllocError>
+        ensures { IfOk result (λ p. (place_view p.0 ≡ specs.key_place (use_view self) pair.now) × (place_view p.1 ≡ specs.value_place (use_view self) pair.now)) }
+    {
+        both(self.key_place(alloc, pair), self.value_place(alloc, pair))
     }
 }

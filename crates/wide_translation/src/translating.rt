@@ -1,31 +1,27 @@
 //! The translation of wide expressions.
 
-ghost use Rattle.std.specs.Prelude.{[], ◌∷◌};
 ghost use Rattle.std.specs.Prelude as list;
 ghost use Rattle.wide_reader.specs.Tree as wide;
+ghost use Rattle.wide_kinds.specs.declared.kind.ValueKind.TheVariants as kind;
 ghost use Rattle.wide_meaning.specs.Environment as environment;
 ghost use Rattle.wide_meaning.specs.Functions.{function_named};
-ghost use Rattle.wide_translation.specs.Carried.{taken};
 ghost use Rattle.wide_translation.specs.Declarations.{ReturnsCarried, carried_view, scope_in, use_view};
-ghost use Rattle.wide_translation.specs.Layers.{sets_test};
-ghost use Rattle.wide_translation.specs.Lists as lists;
-ghost use Rattle.wide_translation.specs.Scope.{is_hidden};
+ghost use Rattle.wide_translation.specs.Scope.{is_hidden, within};
 ghost use Rattle.wide_translation.specs.Translated as specs;
 ghost use Rattle.wide_translation.specs.Translated.{translated, all_translated, items_translated, entries_translated};
 
-use crate::calls::{as_list, taken_name, unknown, unknown_method};
-use crate::carried::{Carried, list_of, value_of};
-use crate::indices::index;
+use crate::calls::{taken_name, unknown, unknown_method};
+use crate::carried::Carried;
 use crate::lists::ListParts;
-use crate::names::{Names, hides_variables, is_taken, pair_name};
+use crate::names::{Names, hides_variables, is_taken};
 use crate::naming::{compared_uint, denotes_variables, is_empty, name, qualified, root, variable};
-use crate::pair_names::{PairNames, both_free};
+use crate::pair_names::{PairNames, PairScope, both_free};
 use crate::place::Place;
 use crate::translation_error::TranslationError;
 use crate::{
-    calls, entries, fields, list_functions, naming, operators, pair_macros, pair_ranges, ranges,
+    calls, composed, composed_calls, composed_macros, entries, fields, list_functions, naming,
+    operators,
 };
-use cel_macros::TextTest;
 use std::alloc::{AllocError, Global};
 use wide_kinds::ValueKind;
 use wide_meaning::{Function, Method, Qualified};
@@ -42,11 +38,9 @@ fn items(
 {
     let mut parts = ListParts::new(alloc);
     for (access, item) in given {
-        let found = translation(alloc, item, names)?;
-        parts.add(alloc, *access, found)?;
+        parts.add_part(alloc, *access, translation(alloc, item, names))?;
     }
-    let tree = parts.joined(alloc)?;
-    Ok(Carried::Plain(ValueKind::List, tree))
+    parts.list(alloc)
 }
 
 /// A map literal.
@@ -60,11 +54,9 @@ fn pairs(
 {
     let mut out = Vec::new(alloc);
     for (access, key, value) in given {
-        let Some((_, key_tree)) = value_of(translation(alloc, key, names)?) else {
-            return Err(TranslationError::OptionalValue);
-        };
-        let second = translation(alloc, value, names)?;
-        let part = entries::part(alloc, *access, key_tree, second)?;
+        let first = translation(alloc, key, names);
+        let second = translation(alloc, value, names);
+        let part = composed::entry(alloc, *access, first, second)?;
         if let Err(failed) = out.push(part) {
             return Err(AllocError::from(failed).into());
         }
@@ -105,54 +97,9 @@ fn call(
     };
     match arguments {
         [] => Err(unknown(alloc, name)),
-        [argument] => {
-            let operand = translation(alloc, argument, names)?;
-            calls::function(alloc, found, operand)
-        }
+        [argument] => composed_calls::call(alloc, found, translation(alloc, argument, names)),
         _ => Err(unknown(alloc, name)),
     }
-}
-
-/// A function with a namespace of one argument.
-#[cycle(translation)]
-fn qualified_of(
-    alloc: Global,
-    found: Qualified,
-    name: &str,
-    argument: &Wide,
-    names: &Names,
-) -> Result<Carried, TranslationError>
-    ensures { ReturnsCarried (specs.qualified_translation found name.now (translated (scope_in names.now) (wide.view argument.now) ∷ [])) result }
-{
-    match found {
-        Qualified::OptionalOf => {
-            let operand = translation(alloc, argument, names)?;
-            calls::optional_of(alloc, operand)
-        }
-        Qualified::OptionalOfNonZeroValue => {
-            let operand = translation(alloc, argument, names)?;
-            calls::optional_of_non_zero(alloc, operand)
-        }
-        _ => Err(unknown(alloc, name)),
-    }
-}
-
-/// A test of two sets, the first of which is translated.
-#[cycle(translation)]
-fn sets(
-    alloc: Global,
-    found: Qualified,
-    first: Carried,
-    second: &Wide,
-    names: &Names,
-) -> Result<Carried, TranslationError>
-    ensures { ReturnsCarried (lists.sets_translation (sets_test found) (taken (carried_view first)) (translated (scope_in names.now) (wide.view second.now))) result }
-{
-    let Some((_, list)) = value_of(first) else {
-        return Err(TranslationError::OptionalValue);
-    };
-    let other = translation(alloc, second, names)?;
-    list_functions::sets(alloc, found, list, other)
 }
 
 /// A function with a namespace.
@@ -169,60 +116,20 @@ fn qualified_call(
 {
     match arguments {
         [] => calls::qualified(alloc, found, name),
-        [argument] => qualified_of(alloc, found, name, argument, names),
+        [argument] => composed_calls::qualified(
+            alloc,
+            found,
+            name,
+            translation(alloc, argument, names),
+        ),
         [first, second] => {
             if list_functions::is_of_sets(found) {
-                let list = translation(alloc, first, names)?;
-                return sets(alloc, found, list, second, names);
+                let list = translation(alloc, first, names);
+                return composed_calls::sets(alloc, found, list, translation(alloc, second, names));
             }
             Err(unknown(alloc, name))
         }
         _ => Err(unknown(alloc, name)),
-    }
-}
-
-/// A test of a text with an argument.
-#[cycle(translation)]
-fn tested(
-    alloc: Global,
-    test: TextTest,
-    of: Carried,
-    argument: &Wide,
-    names: &Names,
-) -> Result<Carried, TranslationError>
-    ensures { ReturnsCarried (specs.test_translation test (carried_view of) (translated (scope_in names.now) (wide.view argument.now))) result }
-{
-    let Some((_, text)) = value_of(of) else {
-        return Err(TranslationError::OptionalValue);
-    };
-    let operand = translation(alloc, argument, names)?;
-    calls::tested(alloc, test, text, operand)
-}
-
-/// A method of one argument.
-#[cycle(translation)]
-fn method_with(
-    alloc: Global,
-    found: Method,
-    of: Carried,
-    argument: &Wide,
-    names: &Names,
-) -> Result<Carried, TranslationError>
-    ensures { ReturnsCarried (specs.method_carried found (carried_view of) (translated (scope_in names.now) (wide.view argument.now) ∷ [])) result }
-{
-    match found {
-        Method::StartsWith => tested(alloc, TextTest::StartsWith, of, argument, names),
-        Method::EndsWith => tested(alloc, TextTest::EndsWith, of, argument, names),
-        Method::Contains => tested(alloc, TextTest::Contains, of, argument, names),
-        Method::OrValue => {
-            let other = translation(alloc, argument, names)?;
-            calls::or_value(alloc, of, other)
-        }
-        Method::Or => {
-            let other = translation(alloc, argument, names)?;
-            calls::or(alloc, of, other)
-        }
-        _ => Err(unknown_method(alloc, found)),
     }
 }
 
@@ -240,8 +147,11 @@ fn method(
 {
     match arguments {
         [] => calls::method(alloc, found, of),
-        [argument] => method_with(alloc, found, of, argument, names),
-        _ => Err(unknown_method(alloc, found)),
+        [argument] => composed_calls::method(alloc, found, of, translation(alloc, argument, names)),
+        _ => {
+            drop(of);
+            Err(unknown_method(alloc, found))
+        }
     }
 }
 
@@ -263,6 +173,20 @@ fn selected(
     Ok(fields::field(alloc, access, field, inner)?)
 }
 
+/// The predicate or transform of a macro with one name.
+#[cycle(translation)]
+fn in_macro(
+    alloc: Global,
+    item: &str,
+    part: &Wide,
+    names: &Names,
+) -> Result<Carried, TranslationError>
+    ensures { ReturnsCarried (translated (within item.now kind.Dyn (scope_in names.now)) (wide.view part.now)) result }
+{
+    let inner = Names::Within(item, Place::Itself(ValueKind::Dyn), &*names);
+    translation(alloc, part, &inner)
+}
+
 /// The predicate or transform of a macro with two names.
 #[cycle(translation)]
 fn in_pair(
@@ -273,11 +197,12 @@ fn in_pair(
 ) -> Result<Carried, TranslationError>
     ensures { ReturnsCarried (translated (specs.within_pair (use_view given.now.used) given.now.key.now given.now.value.now (scope_in names.now)) (wide.view part.now)) result }
 {
-    let pair = pair_name(alloc, names)?;
-    let key = String::from_str(alloc, given.key)?;
-    let value = String::from_str(alloc, given.value)?;
-    let first = given.used.key_place(alloc, pair.as_str())?;
-    let second = given.used.value_place(alloc, pair.as_str())?;
+    let PairScope {
+        key,
+        value,
+        first,
+        second,
+    } = given.scope(alloc, names)?;
     let outer = Names::Within(key.as_str(), first, &*names);
     let inner = Names::Within(value.as_str(), second, &outer);
     translation(alloc, part, &inner)
@@ -300,31 +225,25 @@ pub(crate) fn translation(
         Wide::Root(given) => root(alloc, given.as_str(), names),
         Wide::Select(of, access, field) => selected(alloc, of, *access, field.as_str(), names),
         Wide::Index(of, access, at) => {
-            let inner = translation(alloc, of, names)?;
-            let key = translation(alloc, at, names)?;
-            index(alloc, at, *access, inner, key)
+            let inner = translation(alloc, of, names);
+            composed::index(alloc, at, *access, inner, translation(alloc, at, names))
         }
         Wide::Has(of, field) => {
-            let inner = translation(alloc, of, names)?;
-            fields::tested(alloc, field.as_str(), inner)
+            composed::tested(alloc, field.as_str(), translation(alloc, of, names))
         }
         Wide::Unary(operator, of) => {
-            let inner = translation(alloc, of, names)?;
-            operators::unary(alloc, *operator, inner)
+            composed::unary(alloc, *operator, translation(alloc, of, names))
         }
         Wide::Binary(operator, left, right) => {
             let is_compared = operators::compares(*operator);
-            let first = operand(alloc, is_compared, left, names)?;
-            let second = operand(alloc, is_compared, right, names)?;
-            operators::binary(alloc, is_empty(right), *operator, first, second)
+            let first = operand(alloc, is_compared, left, names);
+            let second = operand(alloc, is_compared, right, names);
+            composed::binary(alloc, is_empty(right), *operator, first, second)
         }
         Wide::Ternary(condition, yes, no) => {
-            let Some((_, test)) = value_of(translation(alloc, condition, names)?) else {
-                return Err(TranslationError::OptionalValue);
-            };
-            let first = translation(alloc, yes, names)?;
-            let second = translation(alloc, no, names)?;
-            operators::ternary(alloc, test, first, second)
+            let test = translation(alloc, condition, names);
+            let first = translation(alloc, yes, names);
+            composed::ternary(alloc, test, first, translation(alloc, no, names))
         }
         Wide::List(given) => items(alloc, given.as_slice(), names),
         Wide::Map(given) => pairs(alloc, given.as_slice(), names),
@@ -332,57 +251,43 @@ pub(crate) fn translation(
             if is_taken(item.as_str()) {
                 return Err(taken_name(alloc, item.as_str()));
             }
-            let Some((_, of)) = value_of(translation(alloc, range, names)?) else {
-                return Err(TranslationError::OptionalValue);
-            };
-            let inner = Names::Within(item.as_str(), Place::Itself(ValueKind::Dyn), &*names);
-            let body = translation(alloc, part, &inner)?;
-            ranges::fold(alloc, *found, item.as_str(), of, body)
+            let of = translation(alloc, range, names);
+            let body = in_macro(alloc, item.as_str(), part, names);
+            composed_macros::fold(alloc, *found, item.as_str(), of, body)
         }
         Wide::FilterMap(range, item, predicate, transform) => {
             if is_taken(item.as_str()) {
                 return Err(taken_name(alloc, item.as_str()));
             }
-            let Some((_, of)) = value_of(translation(alloc, range, names)?) else {
-                return Err(TranslationError::OptionalValue);
-            };
-            let inner = Names::Within(item.as_str(), Place::Itself(ValueKind::Dyn), &*names);
-            let Some((_, test)) = value_of(translation(alloc, predicate, &inner)?) else {
-                return Err(TranslationError::OptionalValue);
-            };
-            let body = translation(alloc, transform, &inner)?;
-            ranges::filter_map(alloc, item.as_str(), of, test, body)
+            let of = translation(alloc, range, names);
+            let test = in_macro(alloc, item.as_str(), predicate, names);
+            let body = in_macro(alloc, item.as_str(), transform, names);
+            composed_macros::filter_map(alloc, item.as_str(), of, test, body)
         }
         Wide::PairFold(found, range, key, value, part) => {
             both_free(alloc, key.as_str(), value.as_str())?;
             let given = PairNames::in_one(key.as_str(), value.as_str(), part);
-            let operand = translation(alloc, range, names)?;
-            let over = pair_ranges::over(alloc, &given, operand, names)?;
-            let body = in_pair(alloc, &given, part, names)?;
-            pair_macros::fold(alloc, *found, over, body)
+            let operand = translation(alloc, range, names);
+            let over = composed_macros::pair_range(alloc, &given, operand, names);
+            let body = in_pair(alloc, &given, part, names);
+            composed_macros::pair_fold(alloc, *found, over, body)
         }
         Wide::PairFilterMap(range, key, value, predicate, transform) => {
             both_free(alloc, key.as_str(), value.as_str())?;
             let given = PairNames::in_two(key.as_str(), value.as_str(), predicate, transform);
-            let operand = translation(alloc, range, names)?;
-            let over = pair_ranges::over(alloc, &given, operand, names)?;
-            let Some((_, test)) = value_of(in_pair(alloc, &given, predicate, names)?) else {
-                return Err(TranslationError::OptionalValue);
-            };
-            let body = in_pair(alloc, &given, transform, names)?;
-            pair_macros::filter_map(alloc, over, test, body)
+            let operand = translation(alloc, range, names);
+            let over = composed_macros::pair_range(alloc, &given, operand, names);
+            let test = in_pair(alloc, &given, predicate, names);
+            let body = in_pair(alloc, &given, transform, names);
+            composed_macros::pair_filter_map(alloc, over, test, body)
         }
         Wide::OptionalFold(found, of, item, part) => {
             if is_taken(item.as_str()) {
                 return Err(taken_name(alloc, item.as_str()));
             }
-            let operand = translation(alloc, of, names)?;
-            let Some((_, list)) = list_of(as_list(alloc, operand)?) else {
-                return Err(TranslationError::OptionalValue);
-            };
-            let inner = Names::Within(item.as_str(), Place::Itself(ValueKind::Dyn), &*names);
-            let body = translation(alloc, part, &inner)?;
-            ranges::optional_fold(alloc, *found, item.as_str(), list, body)
+            let operand = translation(alloc, of, names);
+            let body = in_macro(alloc, item.as_str(), part, names);
+            composed_macros::optional_fold(alloc, *found, item.as_str(), operand, body)
         }
         Wide::Call(given, arguments) => { call(alloc, given.as_str(), arguments.as_slice(), names) }
         Wide::Method(of, given, arguments) => {
