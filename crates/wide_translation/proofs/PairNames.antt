@@ -1,5 +1,5 @@
 -- The names of pairs, and the scopes in which they are bound.
-use Rattle.std.proofs.Common.{◌≡◌, ◌∙◌, ℕ, zero, suc, List, [], ◌∷◌, ◌++◌, replicate, length, codes, Bor, Result, refl, ap, sym, subst}
+use Rattle.std.proofs.Common.{◌≡◌, ◌∙◌, ℕ, zero, suc, List, ◌∷◌, ◌++◌, replicate, length, codes, Bor, Result, refl, ap, sym, subst}
 use Rattle.wide_reader.specs.Tree.{Wide}
 use Rattle.wide_translation.specs.Declarations.{ReturnsCarried, place_view, scope_in, scope_step}
 use Rattle.wide_translation.specs.Names.{pair_name}

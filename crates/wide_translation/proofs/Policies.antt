@@ -18,7 +18,7 @@ use Rattle.wide_meaning.specs.Outcome.{Outcome, plain_part}
 use Rattle.wide_kinds.specs.declared.kind.Kind.{Kind, TheVariants.Value as OfValue}
 use Rattle.wide_kinds.specs.declared.kind.Kind.{TheVariants.Optional as OfOptional}
 use Rattle.wide_translation.specs.Scope.{scope_of, condition_scope}
-use Rattle.wide_translation.specs.Forms.{null_tree, placed_tree, root_tree}
+use Rattle.wide_translation.specs.Forms.{null_tree, placed_tree}
 use Rattle.wide_translation.specs.Holds.{Declared, WideStandsFor}
 use Rattle.wide_translation.specs.Names.{namespace_name, params_name, params_field}
 use Rattle.wide_translation.specs.Placed.{placed, condition_roots, wide_environment, environment, WideStep, kind_of, AreTranslated}

@@ -1,5 +1,5 @@
 -- Proof obligations of the functions of the cycle `uses` (src/name_uses.rt).
-use Rattle.std.proofs.Common.{◌≡◌, ◌∙◌, sym}
+use Rattle.std.proofs.Common.{◌∙◌, sym}
 use Rattle.wide_translation.proofs.UseSteps.{item_unused, entry_unused}
 use Rattle.wide_translation.proofs.name_uses.+uses.Goals as goal
 

@@ -1,5 +1,5 @@
 -- Proof obligation of `pair_name` (src/names.rt).
-use Rattle.std.proofs.Common.{◌≡◌, ◌∙◌, ap, sym, ℕ, List, [], ◌∷◌, ◌++◌, length}
+use Rattle.std.proofs.Common.{◌∙◌, ap, sym, ℕ, List, [], ◌∷◌, ◌++◌, length}
 use Rattle.wide_translation.specs.Declarations.{scope_in}
 use Rattle.wide_translation.specs.Names.{pair_name}
 use Rattle.wide_translation.specs.Scope.{WideScope}

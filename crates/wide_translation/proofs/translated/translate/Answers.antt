@@ -1,7 +1,6 @@
 -- Proof obligation of `translate` (src/translated.rt).
 use Rattle.std.proofs.Common.{◌≡◌, ◌∙◌, ap, sym, Bool, List, map, Bor}
 use Rattle.wide_reader.specs.Tree as wide
-use Rattle.wide_translation.specs.Carried.{taken}
 use Rattle.wide_translation.specs.Declarations.{carried_view, declaration, scope_in, scope_step}
 use Rattle.wide_translation.specs.Scope.{WideScope, scope_of}
 use Rattle.wide_translation.specs.declared.names.Names as names
