@@ -2,9 +2,8 @@
 
 use super::doubles::Tape;
 use debugger::{Counting, Sink, Source};
-use std::alloc::Global;
+use std::alloc::{AllocError, Global};
 use std::io::{Error, ErrorKind, Read, Write};
-use std::test::Fail;
 use streams::write_all;
 
 /// A broken device.
@@ -52,16 +51,18 @@ fn failed_writes<T: Write + Drop>(inner: T, bytes: &[u8], calls: u64) -> u64 {
     Sink::failures(&counted)
 }
 
+/// The number of this many writes of two bytes to a buffer of three that fail.
+fn failed_writes_to_room(calls: u64) -> u64 {
+    let mut room = [0u8; 3];
+    failed_writes(room.as_mut_slice(), b"ab", calls)
+}
+
 /// A write to a three-byte buffer takes no byte after it is full.
 #[test]
 fn counts_failed_writes(rt: HostRuntime) {
-    for (calls, failures) in [(2, 0), (3, 1), (4, 2)] {
-        let mut room = [0u8; 3];
-        assert!(rt;
-            failed_writes(room.as_mut_slice(), b"ab", calls) == failures,
-            "{calls} calls"
-        );
-    }
+    assert!(rt; failed_writes_to_room(2) == 0);
+    assert!(rt; failed_writes_to_room(3) == 1);
+    assert!(rt; failed_writes_to_room(4) == 2);
     assert!(rt; failed_writes(Broken, b"", 2) == 2);
 }
 
@@ -113,17 +114,15 @@ fn reads_byte_by_byte(rt: HostRuntime) {
 
 /// Whether exactly these bytes of `abcde` are written, two bytes at a time, if the write with
 /// one of these numbers fails, or takes no byte.
-fn writes(alloc: Global, fails_at: u64, stalls_at: u64, said: &[u8]) -> Result<bool, Fail> {
+fn writes(alloc: Global, fails_at: u64, stalls_at: u64, said: &[u8]) -> Result<bool, AllocError> {
     let mut tape = Tape::new(Vec::with_capacity(alloc, 5)?, 2, fails_at, stalls_at);
     let _ = write_all(&mut tape, b"abcde");
     Ok(tape.bytes() == said)
 }
 
 #[test]
-fn writes_in_pieces(rt: HostRuntime) -> Result<(), Fail> {
-    let rows: [(u64, u64, &[u8]); 3] = [(0, 0, b"abcde"), (2, 0, b"ab"), (0, 3, b"abcd")];
-    for (fails_at, stalls_at, said) in rows {
-        assert!(rt; writes(rt.alloc(), fails_at, stalls_at, said)?);
-    }
-    Ok(())
+fn writes_in_pieces(rt: HostRuntime) {
+    assert!(rt; writes(rt.alloc(), 0, 0, b"abcde").unwrap_or(false));
+    assert!(rt; writes(rt.alloc(), 2, 0, b"ab").unwrap_or(false));
+    assert!(rt; writes(rt.alloc(), 0, 3, b"abcd").unwrap_or(false));
 }

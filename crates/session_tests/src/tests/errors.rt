@@ -1,9 +1,9 @@
 //! Codes and messages of errors.
 
+use super::assert_rows;
 use debugger::SessionError;
 use std::alloc::{AllocError, Global};
 use std::fmt::Display;
-use std::test::Fail;
 use value_store::TableError;
 
 /// Whether the error has this message.
@@ -35,15 +35,26 @@ const TABLE_ERRORS: [(TableError, &str, &str); 4] = [
     (TableError::Memory, "memory", "out of memory"),
 ];
 
+fn right_session_errors(alloc: Global) -> Result<usize, AllocError> {
+    for (place, (error, code, words)) in SESSION_ERRORS.iter().enumerate() {
+        if error.code() != *code || !has_words(alloc, error, words)? {
+            return Ok(place);
+        }
+    }
+    Ok(3)
+}
+
+fn right_table_errors(alloc: Global) -> Result<usize, AllocError> {
+    for (place, (error, code, words)) in TABLE_ERRORS.iter().enumerate() {
+        if error.code() != *code || !has_words(alloc, error, words)? {
+            return Ok(place);
+        }
+    }
+    Ok(4)
+}
+
 #[test]
-fn errors_have_codes_and_words(rt: HostRuntime) -> Result<(), Fail> {
-    for (error, code, words) in &SESSION_ERRORS {
-        let has_code = error.code() == *code;
-        assert!(rt; has_code && has_words(rt.alloc(), error, words)?, "{code}");
-    }
-    for (error, code, words) in &TABLE_ERRORS {
-        let has_code = error.code() == *code;
-        assert!(rt; has_code && has_words(rt.alloc(), error, words)?, "{code}");
-    }
-    Ok(())
+fn errors_have_codes_and_words(rt: HostRuntime) {
+    assert_rows(&rt, right_session_errors(rt.alloc()).unwrap_or(0), 3);
+    assert_rows(&rt, right_table_errors(rt.alloc()).unwrap_or(0), 4);
 }

@@ -5,7 +5,6 @@ use guest_memory::Guest;
 use history::{History, Past};
 use loader::Image;
 use std::alloc::Global;
-use std::test::Fail;
 use value_store::PlainTable;
 
 mod places;
@@ -13,16 +12,26 @@ mod searches;
 
 type Plain = Machine<PlainTable, Guest>;
 
-/// The machine at the start of this code.
-fn started(alloc: Global, code: &[u8]) -> Result<Plain, Fail> {
-    let code = Vec::from_slice(alloc, code)?;
-    let image = Image::new(code, Vec::new(alloc))?;
-    let values = PlainTable::of_roots(alloc, &nulls())?;
-    Ok(Machine::start(alloc, image, values)?)
+/// The image of this code.
+fn image(alloc: Global, code: &[u8]) -> Option<Image> {
+    let code = Vec::from_slice(alloc, code).ok()?;
+    Image::new(code, Vec::new(alloc)).ok()
+}
+
+/// The plain table of five null roots.
+fn values(alloc: Global) -> Option<PlainTable> {
+    PlainTable::of_roots(alloc, &nulls()).ok()
+}
+
+/// The machine at the start of this image, with these values.
+fn started(alloc: Global, image: Option<Image>, values: Option<PlainTable>) -> Option<Plain> {
+    let image = image?;
+    let values = values?;
+    Machine::start(alloc, image, values).ok()
 }
 
 /// The run of this code, shown at place 0.
-fn begun(alloc: Global, code: &[u8]) -> Result<Past<Plain>, Fail> {
-    let machine = started(alloc, code)?;
-    Ok(Past::begin(alloc, machine)?)
+fn begun(alloc: Global, code: &[u8]) -> Option<Past<Plain>> {
+    let machine = started(alloc, image(alloc, code), values(alloc))?;
+    Past::begin(alloc, machine).ok()
 }

@@ -1,11 +1,10 @@
 //! An image that an earlier version of `compile` made, and the same code as an image of version 1.
 
-use super::doubles::{Feed, Tape};
-use debugger::session;
+use super::assert_rows;
+use super::talking::says;
 use loader::Image;
 use serde_json::Value;
 use std::alloc::{AllocError, Global};
-use std::test::Fail;
 use value_table::Table;
 
 /// The code that the first version of `compile` (commit 19774f53) made of a policy with the condition
@@ -132,40 +131,42 @@ const CODE: [u64; 134] = [
 /// Its constants: the names of two fields.
 const CONSTANTS: &[u8] = b"specreplicas";
 
-/// The file of the image with this magic.
-fn file(alloc: Global, magic: &[u8]) -> Result<Vec<u8>, AllocError> {
-    let mut file = Vec::from_slice(alloc, magic)?;
+/// Appends the file of the image with this magic.
+fn push_file(file: &mut Vec<u8>, magic: &[u8]) -> Result<(), AllocError> {
+    file.extend_from_slice(magic)?;
     file.extend_from_slice(&[134, 0, 0, 0, 12, 0, 0, 0])?;
     for slot in &CODE {
         file.extend_from_slice(&slot.to_be_bytes())?;
     }
-    file.extend_from_slice(CONSTANTS)?;
-    Ok(file)
+    file.extend_from_slice(CONSTANTS)
 }
 
-/// The values of a review with 5 replicas.
-fn values(alloc: Global) -> Result<Table, Fail> {
-    let roots = [
-        Value::from_str(alloc, "{\"spec\":{\"replicas\":5}}")?,
-        Value::Null,
-        Value::Null,
-        Value::Null,
-        Value::from_str(alloc, "{\"uid\":\"u1\"}")?,
-    ];
-    Ok(Table::of_roots(alloc, &roots)?)
+/// The image with this magic.
+fn image(alloc: Global, magic: &[u8]) -> Option<Image> {
+    let mut file = Vec::new(alloc);
+    push_file(&mut file, magic).ok()?;
+    Image::read(alloc, &file).ok()
 }
 
-/// Whether a session with this image on that review writes this.
-fn says(alloc: Global, magic: &[u8], input: &'static [u8], said: &[u8]) -> Result<bool, Fail> {
-    let image = Image::read(alloc, &file(alloc, magic)?)?;
-    let mut feed = Feed::new(input, 1000, 0);
-    let mut tape = Tape::new(Vec::new(alloc), 1000, 0, 0);
-    let answer = session(alloc, image, values(alloc)?, &mut feed, &mut tape);
-    Ok(answer.is_ok() && tape.bytes() == said)
+/// The documents of a review with 5 replicas, if both could be read.
+fn roots(object: Option<Value>, request: Option<Value>) -> Option<[Value; 5]> {
+    let object = object?;
+    let request = request?;
+    Some([object, Value::Null, Value::Null, Value::Null, request])
+}
+
+/// The values of that review.
+fn values(alloc: Global) -> Option<Table> {
+    let object = Value::from_str(alloc, "{\"spec\":{\"replicas\":5}}").ok();
+    let roots = roots(object, Value::from_str(alloc, "{\"uid\":\"u1\"}").ok())?;
+    Table::of_roots(alloc, &roots).ok()
 }
 
 /// A run to the end, and three steps back.
 const BACK: &[u8] = b"c 1000000\nw\nr\nrs 3\nw\nf\nl\n";
+
+/// A magic, an input and the text that is written.
+type Row = (&'static [u8], &'static [u8], &'static [u8]);
 
 /// Images with inputs, and the text that is written. The texts for `BACK` follow from the lines of the code, whose
 /// run has 90 steps: 10 up to slot 40, with the condition; 27 for the first comparison, 14 of them in the variable's
@@ -173,7 +174,7 @@ const BACK: &[u8] = b"c 1000000\nw\nr\nrs 3\nw\nf\nl\n";
 /// validation; 8 from slot 124 on. The values that it places have the references 9 (the map of `spec`), 10 (the int
 /// 5), 11 (the int 3), 12 (the text of the message) and 13 (the int 0).
 #[rattlefmt::skip]
-const ROWS: [(&[u8], &[u8], &[u8]); 3] = [
+const ROWS: [Row; 3] = [
     (
         b"CELBPF02",
         BACK,
@@ -188,10 +189,16 @@ const ROWS: [(&[u8], &[u8], &[u8]); 3] = [
     (b"CELBPF02", b"v 4\nv 5\nv 8\nv 9\n", b"value 4 {\"spec\":{\"replicas\":5}}\nvalue 5 null\nvalue 8 {\"uid\":\"u1\"}\n? range\n"),
 ];
 
-#[test]
-fn images_of_earlier_compilers_are_shown(rt: HostRuntime) -> Result<(), Fail> {
-    for &(magic, input, said) in &ROWS {
-        assert!(rt; says(rt.alloc(), magic, input, said)?);
+fn right_rows(alloc: Global) -> usize {
+    for (place, &(magic, input, said)) in ROWS.iter().enumerate() {
+        if !says(alloc, image(alloc, magic), values(alloc), input, said) {
+            return place;
+        }
     }
-    Ok(())
+    3
+}
+
+#[test]
+fn images_of_earlier_compilers_are_shown(rt: HostRuntime) {
+    assert_rows(&rt, right_rows(rt.alloc()), 3);
 }

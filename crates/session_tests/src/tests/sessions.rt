@@ -2,12 +2,11 @@
 ghost use Rattle.std.specs.Prelude.{◌<◌};
 
 use super::doubles::{Feed, Tape};
-use super::nulls;
-use debugger::{SessionError, Source, session};
+use super::talking::{Ended, talk};
+use super::{assert_rows, null_table};
+use debugger::{SessionError, Source};
 use loader::Image;
-use std::alloc::Global;
-use std::test::Fail;
-use value_table::Table;
+use std::alloc::{AllocError, Global};
 
 mod failures;
 
@@ -84,37 +83,38 @@ const COMMANDS: [(&[u8], &[u8], &[u8]); 15] = [
     ),
 ];
 
-/// The end of a session with this code and five null roots.
-fn ended(alloc: Global, code: &[u8], feed: &mut Feed, tape: &mut Tape) -> Result<Ended, Fail> {
-    let code = Vec::from_slice(alloc, code)?;
-    let image = Image::new(code, Vec::new(alloc))?;
-    Ok(session(alloc, image, Table::of_roots(alloc, &nulls())?, feed, tape))
+/// The image of this code.
+fn image(alloc: Global, code: &[u8]) -> Option<Image> {
+    let code = Vec::from_slice(alloc, code).ok()?;
+    Image::new(code, Vec::new(alloc)).ok()
 }
 
-type Ended = Result<(), SessionError>;
+/// The end of a session with this code and five null roots.
+fn ended(alloc: Global, code: &[u8], feed: &mut Feed, tape: &mut Tape) -> Ended {
+    talk(alloc, image(alloc, code), null_table(alloc), feed, tape)
+}
 
 /// Whether a session with this code, which reads and writes in pieces of this size, writes this.
-fn says(
-    alloc: Global,
-    code: &[u8],
-    input: &'static [u8],
-    said: &[u8],
-    piece: usize,
-) -> Result<bool, Fail>
+fn says(alloc: Global, code: &[u8], input: &'static [u8], said: &[u8], piece: usize) -> bool
     requires { 0 < piece }
 {
     let mut feed = Feed::new(input, piece, 0);
     let mut tape = Tape::new(Vec::new(alloc), piece, 0, 0);
-    let answer = ended(alloc, code, &mut feed, &mut tape)?;
-    Ok(answer.is_ok() && tape.bytes() == said)
+    ended(alloc, code, &mut feed, &mut tape) == Some(Ok(())) && tape.bytes() == said
+}
+
+fn right_commands(alloc: Global) -> usize {
+    for (place, &(code, input, said)) in COMMANDS.iter().enumerate() {
+        if !says(alloc, code, input, said, 1000) {
+            return place;
+        }
+    }
+    15
 }
 
 #[test]
-fn breaks_and_lists(rt: HostRuntime) -> Result<(), Fail> {
-    for &(code, input, said) in &COMMANDS {
-        assert!(rt; says(rt.alloc(), code, input, said, 1000)?);
-    }
-    Ok(())
+fn breaks_and_lists(rt: HostRuntime) {
+    assert_rows(&rt, right_commands(rt.alloc()), 15);
 }
 
 /// Inputs, and the text that is written.
@@ -133,14 +133,25 @@ const TALKS: [(&[u8], &[u8]); 8] = [
     ),
 ];
 
-#[test]
-fn answers_lines(rt: HostRuntime) -> Result<(), Fail> {
-    for &(input, said) in &TALKS {
-        for piece in [1usize, 2, 1000] {
-            assert!(rt; says(rt.alloc(), CODE, input, said, piece)?);
+/// Whether this is written, whatever the size of the pieces.
+fn says_in_pieces(alloc: Global, input: &'static [u8], said: &[u8]) -> bool {
+    says(alloc, CODE, input, said, 1)
+        && says(alloc, CODE, input, said, 2)
+        && says(alloc, CODE, input, said, 1000)
+}
+
+fn right_talks(alloc: Global) -> usize {
+    for (place, &(input, said)) in TALKS.iter().enumerate() {
+        if !says_in_pieces(alloc, input, said) {
+            return place;
         }
     }
-    Ok(())
+    8
+}
+
+#[test]
+fn answers_lines(rt: HostRuntime) {
+    assert_rows(&rt, right_talks(rt.alloc()), 8);
 }
 
 /// `r1 = 0x200000000`, `r0 = [r1]`, `r0 += 5`, `[r1] = r0`, `r2 = [r1]` and `exit`.
@@ -154,9 +165,8 @@ const WENT_BACK: &[u8] =
     b"step 5 pc 6 running\nstep 1 pc 2 running\nstep 3 pc 4 running\nr0 0x0000000000000005\nr1 0x0000000200000000\nr2 0x0000000000000000\nr3 0x0000000000000000\nr4 0x0000000000000000\nr5 0x0000000000000000\nr6 0x0000000000000000\nr7 0x0000000000000000\nr8 0x0000000000000000\nr9 0x0000000000000000\nr10 0x0000000100000200\nstep 6 pc 6 exited 0x0000000000000005\n";
 
 #[test]
-fn goes_back_over_a_store(rt: HostRuntime) -> Result<(), Fail> {
-    assert!(rt; says(rt.alloc(), STORES, BACK, WENT_BACK, 1000)?);
-    Ok(())
+fn goes_back_over_a_store(rt: HostRuntime) {
+    assert!(rt; says(rt.alloc(), STORES, BACK, WENT_BACK, 1000));
 }
 
 /// Inputs, and the text that is written if no allocation fails, and if the allocation for one of their lines fails.
@@ -197,37 +207,54 @@ const REFUSED: [(&[u8], [&[u8]; 3]); 5] = [
     ),
 ];
 
-/// Whether a session writes one of these, or nothing if it could not begin.
-fn says_one_of(alloc: Global, input: &'static [u8], said: &[&[u8]]) -> Result<bool, Fail> {
-    let mut feed = Feed::new(input, 1, 0);
-    let mut tape = Tape::new(Vec::with_capacity(alloc, 200)?, 1000, 0, 0);
-    match ended(alloc, CODE, &mut feed, &mut tape)? {
-        Ok(()) => Ok(said.contains(&tape.bytes())),
-        Err(error) => Ok(error == SessionError::Memory && tape.bytes().is_empty()),
+/// Whether a session that ended so wrote one of these, or nothing if it could not begin.
+fn is_one_of(ended: Ended, written: &[u8], said: &[&[u8]]) -> bool {
+    match ended {
+        Some(Ok(())) => said.contains(&written),
+        Some(Err(error)) => error == SessionError::Memory && written.is_empty(),
+        None => false,
     }
 }
 
-#[test]
-fn refuses_single_lines(rt: HostRuntime) -> Result<(), Fail> {
-    for &(input, said) in &REFUSED {
-        assert!(rt; says_one_of(rt.alloc(), input, &said)?);
+/// Whether a session writes one of these, or nothing if it could not begin.
+fn says_one_of(alloc: Global, input: &'static [u8], said: &[&[u8]]) -> Result<bool, AllocError> {
+    let mut feed = Feed::new(input, 1, 0);
+    let mut tape = Tape::new(Vec::with_capacity(alloc, 200)?, 1000, 0, 0);
+    let ended = ended(alloc, CODE, &mut feed, &mut tape);
+    Ok(is_one_of(ended, tape.bytes(), said))
+}
+
+fn right_refusals(alloc: Global) -> Result<usize, AllocError> {
+    for (place, (input, said)) in REFUSED.iter().enumerate() {
+        if !says_one_of(alloc, *input, said)? {
+            return Ok(place);
+        }
     }
-    Ok(())
+    Ok(5)
+}
+
+#[test]
+fn refuses_single_lines(rt: HostRuntime) {
+    assert_rows(&rt, right_refusals(rt.alloc()).unwrap_or(0), 5);
 }
 
 /// A line after `q` is not read, and neither is a line after one whose reply was not written.
 #[test]
-fn reads_no_further(rt: HostRuntime) -> Result<(), Fail> {
-    assert!(rt; leaves(rt.alloc(), b"x\nq\ns 1\n", 0, b's')?);
-    assert!(rt; leaves(rt.alloc(), b"x\ns 1\n", 1, b's')?);
-    Ok(())
+fn reads_no_further(rt: HostRuntime) {
+    assert!(rt; leaves(rt.alloc(), b"x\nq\ns 1\n", 0, b's'));
+    assert!(rt; leaves(rt.alloc(), b"x\ns 1\n", 1, b's'));
 }
 
 /// Whether this is the first byte that a session does not read if its write with this number fails.
-fn leaves(alloc: Global, input: &'static [u8], fails_at: u64, next: u8) -> Result<bool, Fail> {
+fn leaves(alloc: Global, input: &'static [u8], fails_at: u64, next: u8) -> bool {
     let mut feed = Feed::new(input, 7, 0);
     let mut tape = Tape::new(Vec::new(alloc), 1000, fails_at, 0);
-    let _ = ended(alloc, CODE, &mut feed, &mut tape)?;
+    let _ = ended(alloc, CODE, &mut feed, &mut tape);
+    is_next(&mut feed, next)
+}
+
+/// Whether this is the next byte.
+fn is_next(feed: &mut Feed, next: u8) -> bool {
     let mut buf = [0u8; 1];
-    Ok(feed.read(&mut buf) == Ok(1) && buf[0] == next)
+    feed.read(&mut buf) == Ok(1) && buf[0] == next
 }

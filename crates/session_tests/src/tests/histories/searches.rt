@@ -2,9 +2,9 @@
 ghost use Rattle.std.specs.Prelude.{◌<◌};
 
 use super::{Plain, begun};
+use crate::tests::assert_rows;
 use history::{History, Past};
 use std::alloc::{AllocError, Global};
-use std::test::Fail;
 
 /// `r0 = 5` and `exit`: slots 0, 1 and, stopped, 1.
 const SHORT: &[u8] = b"\xb7\0\0\0\x05\0\0\0\x95\0\0\0\0\0\0\0";
@@ -19,7 +19,9 @@ const BEFORE: &[u8] = b"\x05\0\xfb\xff\0\0\0\0";
 const WRAPPED: u64 = 0xffff_ffff_ffff_fffc;
 
 /// The code, the place that is shown, the last one to search, the slots, and the place found.
-const FIRST: [(&[u8], u64, u64, &[u64], u64); 26] = [
+type FirstRow = (&'static [u8], u64, u64, &'static [u64], u64);
+
+const FIRST: [FirstRow; 26] = [
     (SHORT, 0, 1, &[], 1),
     (SHORT, 0, 9, &[], 2),
     (SHORT, 0, 9, &[1], 1),
@@ -49,7 +51,9 @@ const FIRST: [(&[u8], u64, u64, &[u64], u64); 26] = [
 ];
 
 /// The code, the place that is shown, the slots, and the place found.
-const LAST: [(&[u8], u64, &[u64], u64); 23] = [
+type LastRow = (&'static [u8], u64, &'static [u64], u64);
+
+const LAST: [LastRow; 23] = [
     (SHORT, 0, &[0], 0),
     (SHORT, 1, &[1], 0),
     (SHORT, 2, &[1], 1),
@@ -95,21 +99,31 @@ fn first_from(
     Ok((found, history.now()))
 }
 
-fn first_in(alloc: Global, code: &[u8], now: u64, to: u64, stops: &[u64]) -> Result<Found, Fail>
+fn first_in(alloc: Global, code: &[u8], now: u64, to: u64, stops: &[u64]) -> Option<Found>
     requires { now < to }
 {
     let mut history = begun(alloc, code)?;
-    Ok(first_from(&mut history, now, to, stops)?)
+    first_from(&mut history, now, to, stops).ok()
+}
+
+/// Whether a row's place is found, and the one that is shown stays.
+fn is_first(alloc: Global, row: &FirstRow) -> bool {
+    let &(code, now, to, stops, found) = row;
+    now < to && first_in(alloc, code, now, to, stops) == Some((found, now))
+}
+
+fn right_first(alloc: Global) -> usize {
+    for (place, row) in FIRST.iter().enumerate() {
+        if !is_first(alloc, row) {
+            return place;
+        }
+    }
+    26
 }
 
 #[test]
-fn finds_the_first(rt: HostRuntime) -> Result<(), Fail> {
-    for &(code, now, to, stops, found) in FIRST.iter() {
-        assert!(rt; now < to);
-        let first = first_in(rt.alloc(), code, now, to, stops)?;
-        assert!(rt; first == (found, now), "from {now} to {to}");
-    }
-    Ok(())
+fn finds_the_first(rt: HostRuntime) {
+    assert_rows(&rt, right_first(rt.alloc()), 26);
 }
 
 /// The result of a backward search from this place.
@@ -119,16 +133,27 @@ fn last_from(history: &mut Past<Plain>, now: u64, stops: &[u64]) -> Result<Found
     Ok((found, history.now()))
 }
 
-fn last_in(alloc: Global, code: &[u8], now: u64, stops: &[u64]) -> Result<Found, Fail> {
+fn last_in(alloc: Global, code: &[u8], now: u64, stops: &[u64]) -> Option<Found> {
     let mut history = begun(alloc, code)?;
-    Ok(last_from(&mut history, now, stops)?)
+    last_from(&mut history, now, stops).ok()
+}
+
+/// Whether a row's place is found, and the one that is shown stays.
+fn is_last(alloc: Global, row: &LastRow) -> bool {
+    let &(code, now, stops, found) = row;
+    last_in(alloc, code, now, stops) == Some((found, now))
+}
+
+fn right_last(alloc: Global) -> usize {
+    for (place, row) in LAST.iter().enumerate() {
+        if !is_last(alloc, row) {
+            return place;
+        }
+    }
+    23
 }
 
 #[test]
-fn finds_the_last(rt: HostRuntime) -> Result<(), Fail> {
-    for &(code, now, stops, found) in LAST.iter() {
-        let last = last_in(rt.alloc(), code, now, stops)?;
-        assert!(rt; last == (found, now), "before {now}");
-    }
-    Ok(())
+fn finds_the_last(rt: HostRuntime) {
+    assert_rows(&rt, right_last(rt.alloc()), 23);
 }

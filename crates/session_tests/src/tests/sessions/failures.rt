@@ -3,10 +3,10 @@
 ghost use Rattle.std.specs.Prelude.{◌<◌};
 
 use super::{CODE, ended, says};
+use crate::tests::assert_rows;
 use crate::tests::doubles::{Feed, Tape};
 use debugger::{SessionError, Sink, Source};
 use std::alloc::Global;
-use std::test::Fail;
 
 /// A short script, and its text.
 const SCRIPT: &[u8] = b"s 1\nx\n";
@@ -14,17 +14,11 @@ const SCRIPT: &[u8] = b"s 1\nx\n";
 const SAID: &[u8] = b"step 1 pc 1 running\n? what\n";
 
 /// Whether a session with this input whose read with this number fails writes this.
-fn stops_at_read(
-    alloc: Global,
-    input: &'static [u8],
-    fails_at: u64,
-    said: &[u8],
-) -> Result<bool, Fail> {
+fn stops_at_read(alloc: Global, input: &'static [u8], fails_at: u64, said: &[u8]) -> bool {
     let mut feed = Feed::new(input, 1, fails_at);
     let mut tape = Tape::new(Vec::new(alloc), 1000, 0, 0);
-    let answer = ended(alloc, CODE, &mut feed, &mut tape)?;
-    let counted = feed.failures() == 1 && tape.bytes() == said;
-    Ok(counted && answer == Err(SessionError::ReadFailed))
+    let ended = ended(alloc, CODE, &mut feed, &mut tape);
+    ended == Some(Err(SessionError::ReadFailed)) && feed.failures() == 1 && tape.bytes() == said
 }
 
 /// The reads that fail, and the text that is written.
@@ -38,15 +32,18 @@ const FAILED_READS: [(u64, &[u8]); 7] = [
     (7, SAID),
 ];
 
-#[test]
-fn stops_where_a_read_fails(rt: HostRuntime) -> Result<(), Fail> {
-    for &(fails_at, said) in &FAILED_READS {
-        assert!(rt;
-            stops_at_read(rt.alloc(), SCRIPT, fails_at, said)?,
-            "at read {fails_at}"
-        );
+fn right_reads(alloc: Global) -> usize {
+    for (place, &(fails_at, said)) in FAILED_READS.iter().enumerate() {
+        if !stops_at_read(alloc, SCRIPT, fails_at, said) {
+            return place;
+        }
     }
-    Ok(())
+    7
+}
+
+#[test]
+fn stops_where_a_read_fails(rt: HostRuntime) {
+    assert_rows(&rt, right_reads(rt.alloc()), 7);
 }
 
 /// A session with a breakpoint, and its text.
@@ -69,24 +66,27 @@ const BROKEN_READS: [(u64, u64, &[u8]); 7] = [
 ];
 
 /// Whether the session with a breakpoint writes this if one of these reads fails.
-fn breaks_at_reads(alloc: Global, from: u64, to: u64, said: &[u8]) -> Result<bool, Fail> {
+fn breaks_at_reads(alloc: Global, from: u64, to: u64, said: &[u8]) -> bool {
     for fails_at in from..to {
-        if !stops_at_read(alloc, BREAKING, fails_at, said)? {
-            return Ok(false);
+        if !stops_at_read(alloc, BREAKING, fails_at, said) {
+            return false;
         }
     }
-    Ok(true)
+    true
+}
+
+fn right_broken_reads(alloc: Global) -> usize {
+    for (place, &(from, to, said)) in BROKEN_READS.iter().enumerate() {
+        if !breaks_at_reads(alloc, from, to, said) {
+            return place;
+        }
+    }
+    7
 }
 
 #[test]
-fn breaks_until_a_read_fails(rt: HostRuntime) -> Result<(), Fail> {
-    for (from, to, said) in &BROKEN_READS {
-        assert!(rt;
-            breaks_at_reads(rt.alloc(), *from, *to, said)?,
-            "from read {from}"
-        );
-    }
-    Ok(())
+fn breaks_until_a_read_fails(rt: HostRuntime) {
+    assert_rows(&rt, right_broken_reads(rt.alloc()), 7);
 }
 
 /// Whether a session with this input writes this if its write with one of these numbers fails, or takes no byte.
@@ -96,49 +96,37 @@ fn stops_at_write(
     fails_at: u64,
     stalls_at: u64,
     said: &[u8],
-) -> Result<bool, Fail> {
+) -> bool {
     let mut feed = Feed::new(input, 1, 0);
     let mut tape = Tape::new(Vec::new(alloc), 1, fails_at, stalls_at);
-    let answer = ended(alloc, CODE, &mut feed, &mut tape)?;
-    let counted = tape.failures() == 1 && tape.bytes() == said;
-    Ok(counted && answer == Err(SessionError::WriteFailed))
+    let ended = ended(alloc, CODE, &mut feed, &mut tape);
+    ended == Some(Err(SessionError::WriteFailed)) && tape.failures() == 1 && tape.bytes() == said
+}
+
+/// Whether a session with this input, with one byte per write, writes all of these bytes before one whose write fails,
+/// and before one that is not taken.
+fn stops_after(alloc: Global, input: &'static [u8], said: &[u8]) -> bool {
+    let number = (said.len() as u64).wrapping_add(1);
+    stops_at_write(alloc, input, number, 0, said) && stops_at_write(alloc, input, 0, number, said)
+}
+
+/// The number of ends of its text, from the start on, at which a session with this input stops so.
+fn right_ends(alloc: Global, input: &'static [u8], said: &[u8]) -> usize {
+    for end in 0..said.len() {
+        if !stops_after(alloc, input, &said[..end]) {
+            return end;
+        }
+    }
+    said.len()
 }
 
 #[test]
-fn stops_where_a_write_fails(rt: HostRuntime) -> Result<(), Fail> {
-    for end in 0..27usize {
-        let number = end as u64 + 1;
-        let said = &SAID[..end];
-        assert!(rt;
-            stops_at_write(rt.alloc(), SCRIPT, number, 0, said)?,
-            "at write {number}"
-        );
-        assert!(rt;
-            stops_at_write(rt.alloc(), SCRIPT, 0, number, said)?,
-            "at write {number}"
-        );
-    }
-    Ok(())
-}
-
-/// Whether the session with a breakpoint, with one byte per write, writes all bytes before one whose
-/// write fails, and before one that is not taken.
-fn breaks_before(alloc: Global, end: usize) -> Result<bool, Fail>
-    requires { end < 83 }
-{
-    let said = &BROKEN[..end];
-    let number = end as u64 + 1;
-    Ok(
-        stops_at_write(alloc, BREAKING, number, 0, said)?
-            && stops_at_write(alloc, BREAKING, 0, number, said)?,
-    )
+fn stops_where_a_write_fails(rt: HostRuntime) {
+    assert_rows(&rt, right_ends(rt.alloc(), SCRIPT, SAID), 27);
 }
 
 #[test]
-fn breaks_until_a_write_fails(rt: HostRuntime) -> Result<(), Fail> {
-    for end in 0..83usize {
-        assert!(rt; breaks_before(rt.alloc(), end)?, "at byte {end}");
-    }
-    assert!(rt; says(rt.alloc(), CODE, BREAKING, BROKEN, 1)?);
-    Ok(())
+fn breaks_until_a_write_fails(rt: HostRuntime) {
+    assert_rows(&rt, right_ends(rt.alloc(), BREAKING, BROKEN), 83);
+    assert!(rt; says(rt.alloc(), CODE, BREAKING, BROKEN, 1));
 }
