@@ -4,7 +4,7 @@ use Rattle.policy_glue.specs.Policy.{Policy}
 use Rattle.policy_glue.specs.Reading.{policy_in}
 use Rattle.policy_glue.specs.declared.failure_policy.FailurePolicy.TheVariants.{Fail, Ignore}
 use Rattle.policy_glue.specs.declared.reason.Reason.TheVariants.{Forbidden, Invalid}
-use Rattle.gatekeeper_runner.specs.TranslationText.{translation_text}
+use Rattle.policy_translation.specs.TranslationText.{translation_text}
 
 -- a policy with each kind of part, as its author wrote it
 abbrev pub written_policy : Policy

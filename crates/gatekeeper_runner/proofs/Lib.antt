@@ -3,7 +3,6 @@ mod FailFirst
 mod Gates
 mod Tallies
 mod RefusalTexts
-mod TranslationTexts
 mod Opened
 mod Asked
 mod Translated

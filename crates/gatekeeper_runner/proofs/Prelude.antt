@@ -53,6 +53,5 @@ pub use Rattle.gatekeeper_runner.specs.declared.tally.Tally.{Tally}
 unfoldable pub use Rattle.gatekeeper_runner.specs.Lines.{refusal_text}
 unfoldable pub use Rattle.gatekeeper_runner.specs.Orders.{entered, faults, files_rule, gatekeeper_app, lines_faults, max_line_rule}
 unfoldable pub use Rattle.gatekeeper_runner.specs.Orders.{is_translate, order_of_words, translation_app, translation_from}
-unfoldable pub use Rattle.gatekeeper_runner.specs.TranslationText.{translation_text}
 unfoldable pub use Rattle.gatekeeper_runner.specs.Orders.{leave_messages_rule, lines_app, partial_rule, policies_app, profile_rule, status_rule, verbose_rule}
 pub use Rattle.gatekeeper_runner.specs.declared.start_refusal.StartRefusal.{StartRefusal}

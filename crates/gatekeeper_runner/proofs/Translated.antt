@@ -8,8 +8,9 @@ use Rattle.admission.specs.declared.language.Language.TheVariants.{Wide}
 use Rattle.gatekeeper_runner.specs.ClusterTelling.{note_lines}
 use Rattle.gatekeeper_runner.specs.Orders.{TranslationOrder}
 use Rattle.gatekeeper_runner.specs.Together.{label_of, label_view}
-use Rattle.gatekeeper_runner.specs.Translating.{HasTranslation, Translates, TranslationTexts, told_name, translated}
-use Rattle.gatekeeper_runner.specs.TranslationText.{translation_text}
+use Rattle.policy_translation.specs.Translations.{HasTranslation}
+use Rattle.gatekeeper_runner.specs.Translating.{Translates, TranslationTexts, told_name, translated}
+use Rattle.policy_translation.specs.TranslationText.{translation_text}
 use Rattle.gatekeeper_runner.specs.declared.policy_label.PolicyLabel.{PolicyLabel}
 
 pub written : (known : Option FileSystem) (order : TranslationOrder) (document : List ℕ) (p : WidePolicy) (t : TranslationTexts) → IsReading known order.file (Ok document)

@@ -15,8 +15,6 @@ pub mod ClusterTelling
 pub mod Counts
 pub mod ClusterLines
 pub mod ClusterEnding
-pub mod TranslationText
-pub mod TranslationTokens
 pub mod Translating
 pub mod Program
 pub mod SameAnswers

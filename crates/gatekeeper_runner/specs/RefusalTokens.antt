@@ -1,12 +1,8 @@
 -- The JSON tokens of a refusal.
-use Rattle.std.specs.Prelude.{◌≡◌, ℕ, List, [], ◌∷◌, ◌++◌, codes, Option, Some, None}
-use Rattle.json.specs.Token.{Token, begin_object, end_object, key, string}
-use Rattle.json.specs.Written.{Written}
+use Rattle.std.specs.Prelude.{ℕ, List, [], ◌∷◌, ◌++◌, codes, Option, Some, None}
+use Rattle.json.specs.Token.{Token, begin_object, end_object}
+use Rattle.policy_glue.specs.ResponseTokens.{text_tokens}
 use Rattle.gatekeeper_runner.specs.Together.{RefusingPolicy}
-
--- a member whose value is a text
-abbrev pub text_tokens : List ℕ → List ℕ → List Token
-text_tokens name text = key name ∷ string text ∷ []
 
 abbrev pub uid_tokens : Option (List ℕ) → List Token
 uid_tokens None = []

@@ -1,20 +1,16 @@
 -- What is written for a policy that is translated, and how the program ends.
-use Rattle.std.specs.Prelude.{◌≡◌, ℕ, List, Option, Result, Ok, Err}
+use Rattle.std.specs.Prelude.{ℕ, List, Option, Result, Ok, Err}
 use Rattle.host.specs.FileSystem.{FileSystem, IsReading}
-use Rattle.policy_glue.specs.Limits.{Compiles}
-use Rattle.policy_glue.specs.Trees.{PolicyTree}
-use Rattle.wide_policy.specs.Reading.{IsWidePolicy}
 use Rattle.wide_policy.specs.declared.message_rule.MessageRule.{MessageRule}
 use Rattle.wide_policy.specs.declared.policy.WidePolicy.{WidePolicy}
-use Rattle.admission.specs.Deciding.{OpensWideGate}
 use Rattle.admission.specs.declared.language.Language.TheVariants.{Wide}
-use Rattle.admission.specs.declared.wide_refusal.WideRefusal.{WideRefusal}
 use Rattle.clap.specs.Words.{Text}
 use Rattle.gatekeeper_runner.specs.ClusterTelling.{note_lines}
 use Rattle.gatekeeper_runner.specs.Orders.{TranslationOrder}
 use Rattle.gatekeeper_runner.specs.Starting.{HasFileFault, IsUnopened}
 use Rattle.gatekeeper_runner.specs.Together.{label_of}
-use Rattle.gatekeeper_runner.specs.TranslationText.{translation_text}
+use Rattle.policy_translation.specs.Translations.{HasTranslation}
+use Rattle.policy_translation.specs.TranslationText.{translation_text}
 use Rattle.gatekeeper_runner.specs.declared.file_fault.FileFault.{FileFault}
 use Rattle.gatekeeper_runner.specs.declared.start_refusal.StartRefusal.{StartRefusal}
 use Rattle.gatekeeper_runner.specs.declared.translation.Translation.{Translation as CodeTranslation}
@@ -23,12 +19,6 @@ use Rattle.gatekeeper_runner.specs.declared.translation.Translation.{Translation
 pub record TranslationTexts : Type 0 where
   pub notes : List ℕ
   pub text : List ℕ
-
--- the document holds this policy, whose translation compiles
-pub record HasTranslation (rule : MessageRule) (document : List ℕ) (p : WidePolicy) : Type 0 where
-  pub is_said : IsWidePolicy rule document p
-  pub trees : PolicyTree
-  pub compiles : Compiles p.profile (Ok trees)
 
 -- the name by which the policy in a file is told of
 abbrev pub told_name : Text → MessageRule → List ℕ → List ℕ
@@ -61,8 +51,3 @@ TranslatesFile known order (Err f) = HasFileFault known (Wide order.rule) order.
 abbrev pub TranslatesFrom : Option FileSystem → TranslationOrder → Result CodeTranslation StartRefusal → Type 0
 TranslatesFrom known order (Ok t) = Translates known order (Ok (translation_view t))
 TranslatesFrom known order (Err r) = Translates known order (Err r)
-
--- the policy in a document, whose translation compiles; or why there is none
-abbrev pub ReadsTranslated : MessageRule → List ℕ → Result WidePolicy WideRefusal → Type 0
-ReadsTranslated rule document (Ok p) = HasTranslation rule document p
-ReadsTranslated rule document (Err e) = OpensWideGate rule document (Err e)

@@ -27,7 +27,6 @@ mod listing;
 mod named_gate;
 mod order;
 mod ordering;
-mod policy_json;
 mod policy_label;
 mod policy_order;
 mod program;
@@ -45,7 +44,6 @@ mod translating;
 mod translation;
 mod translation_order;
 mod translation_ordering;
-mod translation_text;
 mod verbose;
 
 pub use answering::answer_lines;

@@ -4,12 +4,13 @@ ghost use Rattle.policy_glue.specs.Documents.{document_of};
 ghost use Rattle.policy_glue.specs.ResponseTokens.{AddsTokens};
 ghost use Rattle.admission.specs.ErrorCodes.{run_error_code};
 ghost use Rattle.gatekeeper_runner.specs.Lines.{refusal_text, uid_shown};
-ghost use Rattle.gatekeeper_runner.specs.RefusalTokens.{label_tokens, refusal_tokens, text_tokens, uid_tokens};
+ghost use Rattle.gatekeeper_runner.specs.RefusalTokens.{label_tokens, refusal_tokens, uid_tokens};
 ghost use Rattle.gatekeeper_runner.specs.Together.{label_view, refused_view};
 
 use crate::policy_label::PolicyLabel;
 use crate::refused::Refused;
 use json::Writer;
+use policy_translation::write_text;
 use review_tables::text_at;
 use std::alloc::{AllocError, Global};
 
@@ -79,12 +80,4 @@ fn write_policy(writer: &mut Writer, label: &PolicyLabel) -> Result<(), AllocErr
 {
     write_text(writer, "policy", label.name.as_str())?;
     write_text(writer, "failurePolicy", label.failure_policy.as_str())
-}
-
-/// Writes a member whose value is a text.
-pub fn write_text(writer: &mut Writer, name: &str, text: &str) -> Result<(), AllocError>
-    ensures { OnOk result (AddsTokens writer.old writer.new (text_tokens name.now text.now)) }
-{
-    writer.key(name)?;
-    writer.string(text)
 }

@@ -1,7 +1,7 @@
 //! Translates a policy.
 ghost use Rattle.std.specs.Prelude.{◌≡◌};
 ghost use Rattle.gatekeeper_runner.specs.Orders.{translation_order_view};
-ghost use Rattle.gatekeeper_runner.specs.Translating.{ReadsTranslated, TranslatesFile, TranslatesFrom};
+ghost use Rattle.gatekeeper_runner.specs.Translating.{TranslatesFile, TranslatesFrom};
 
 use crate::file_fault::FileFault;
 use crate::file_reading::in_file;
@@ -10,12 +10,9 @@ use crate::start_refusal::StartRefusal;
 use crate::telling::add_notes;
 use crate::translation::Translation;
 use crate::translation_order::TranslationOrder;
-use crate::translation_text::translation_text;
-use admission::{MessageRule, WideRefusal};
 use host::ReadableFiles;
-use policy_glue::compile;
+use policy_translation::{read_translated, translation_text};
 use std::alloc::Global;
-use wide_policy::WidePolicy;
 
 /// What is written for the policy in the file that the order names.
 ///
@@ -54,17 +51,4 @@ fn translate_file<F: ReadableFiles>(
     add_notes(&mut notes, label.name.as_str(), policy.left_out.as_slice())?;
     let text = translation_text(alloc, policy)?;
     Ok(Translation { alloc, notes, text })
-}
-
-/// The policy in a document, whose translation compiles.
-fn read_translated(
-    alloc: Global,
-    document: &[u8],
-    rule: MessageRule,
-) -> Result<WidePolicy, WideRefusal>
-    ensures { ReadsTranslated rule document.now result }
-{
-    let policy = WidePolicy::read(alloc, document, rule)?;
-    let _image = compile(alloc, &policy.profile)?;
-    Ok(policy)
 }

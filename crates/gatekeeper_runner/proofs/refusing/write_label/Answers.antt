@@ -1,6 +1,6 @@
 -- Proofs of `refusing::write_label`: the result meets the contract.
 
-use Rattle.gatekeeper_runner.proofs.RefusalTexts.{adds_none}
+use Rattle.policy_translation.proofs.Tokens.{adds_none}
 use Rattle.gatekeeper_runner.proofs.refusing.write_label.Goals as goal
 
 pub returns-in-None : goal.returns-in-None

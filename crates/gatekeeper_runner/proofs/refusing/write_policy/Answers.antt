@@ -1,7 +1,7 @@
 -- Proofs of `refusing::write_policy`: the result meets the contract.
 
 use Rattle.gatekeeper_runner.proofs.Prelude.{on_ok_weaker}
-use Rattle.gatekeeper_runner.proofs.RefusalTexts.{adds_more}
+use Rattle.policy_translation.proofs.Tokens.{adds_more}
 use Rattle.gatekeeper_runner.proofs.refusing.write_policy.Goals as goal
 
 pub returns : goal.returns

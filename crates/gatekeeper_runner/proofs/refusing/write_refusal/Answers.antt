@@ -1,6 +1,6 @@
 -- Proofs of `refusing::write_refusal`: the result meets the contract.
 
-use Rattle.gatekeeper_runner.proofs.RefusalTexts.{adds_more, last, one}
+use Rattle.policy_translation.proofs.Tokens.{adds_more, last, one}
 use Rattle.gatekeeper_runner.proofs.refusing.write_refusal.Goals as goal
 
 pub returns : goal.returns

@@ -1,6 +1,0 @@
--- Proofs of `translation_text::write_part`: the result meets the contract.
-
-use Rattle.gatekeeper_runner.proofs.translation_text.write_part.Goals as goal
-
-pub returns : goal.returns
-returns c = rw (c.as_str.ensures.value, c.in_ok-key.ensures) at c.write_text.ensures

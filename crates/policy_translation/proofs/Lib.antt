@@ -1,0 +1,4 @@
+-- The proofs of `policy_translation`.
+
+pub mod Tokens
+mod TranslationTexts
