@@ -1,7 +1,5 @@
--- Definitions for the C interface: places for gates, statuses, output and calls.
+-- Definitions for the C interface: places for gates, and the calls on them.
 
 pub mod Places
-pub mod Statuses
-pub mod Output
 pub mod Calls
 pub mod WideCalls

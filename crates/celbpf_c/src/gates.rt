@@ -4,15 +4,15 @@ ghost use Rattle.policy_glue.specs.OneImage.{OneImage};
 ghost use Rattle.admission.specs.Deciding.{OpensGate};
 ghost use Rattle.admission.specs.Standing.{steps_alone};
 ghost use Rattle.admission.specs.declared.language.Language.{Language};
-ghost use Rattle.celbpf_c.specs.Calls.{documents_asked, documents_of, gate_view, image_held, Answers, Holds, MakesGate};
-ghost use Rattle.celbpf_c.specs.Output.{Writes};
-ghost use Rattle.celbpf_c.specs.WideCalls.{wide_gate_view, MakesWideGate, OpensStored};
+ghost use Rattle.celbpf_calls.specs.Calls.{documents_asked, documents_of, Answers};
+ghost use Rattle.celbpf_calls.specs.Output.{Writes};
+ghost use Rattle.celbpf_calls.specs.WideCalls.{OpensStored};
+ghost use Rattle.celbpf_c.specs.Calls.{gate_view, image_held, Holds, MakesGate};
+ghost use Rattle.celbpf_c.specs.WideCalls.{wide_gate_view, MakesWideGate};
 
-use crate::asked::Asked;
 use crate::gate_place::GatePlace;
-use crate::output::{write_answer, write_refusal, write_wide_refusal};
-use crate::statuses::policy_status;
 use admission::{Gate, Limits, MessageRule, PolicyRefusal, WideGate, WideRefusal};
+use celbpf_calls::{Asked, policy_status, write_answer, write_refusal, write_wide_refusal};
 use cli::Refusal;
 use std::alloc::{AllocError, Global};
 

@@ -3,12 +3,9 @@
 //! and states what the C side must ensure, which nothing checks.
 #![tactic(auto)]
 
-mod asked;
 mod box_parts;
 mod gate_place;
 mod gates;
-mod output;
-mod statuses;
 #[cfg(test)]
 mod tests;
 mod without_gate;

@@ -1,7 +1,7 @@
 -- Proofs of `gates::boxed_wide_gate`: the result meets the contract.
 
 use Rattle.admission.proofs.Results.{is_err}
-use Rattle.celbpf_c.proofs.WideGates.{gate_of}
+use Rattle.celbpf_calls.proofs.WideGates.{gate_of}
 use Rattle.celbpf_c.proofs.gates.boxed_wide_gate.Goals as goal
 
 pub returns-in_err-opened : goal.returns-in_err-opened

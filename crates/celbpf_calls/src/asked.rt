@@ -3,7 +3,7 @@ ghost use Rattle.std.specs.Prelude.{◌≡◌, ℕ, List, option_map};
 ghost use Rattle.admission.specs.Deciding.{answer_view, IsGateOn, Reviews};
 ghost use Rattle.admission.specs.Standing.{exactly, RunAgrees};
 ghost use Rattle.admission.specs.declared.language.Language.{Language};
-ghost use Rattle.celbpf_c.specs.Calls.{documents_asked, given};
+ghost use Rattle.celbpf_calls.specs.Calls.{documents_asked, given};
 
 use admission::{Gate, Limits, Reply, RunError};
 
@@ -29,8 +29,8 @@ impl<'a> Asked<'a> {
     }
 }
 
-/// The document, if there is one.
-fn given(document: &[u8]) -> Option<&[u8]>
+/// The document, of which no bytes mean that there is none.
+pub fn given(document: &[u8]) -> Option<&[u8]>
     ensures { option_map (λ b. b.now) result ≡ given document.now }
 {
     if document.is_empty() {

@@ -3,7 +3,7 @@ ghost use Rattle.std.specs.Prelude.{◌≡◌, ◌⊎◌, length, nat_le};
 ghost use Rattle.cli.specs.Refusals.{refusal_line};
 ghost use Rattle.admission.specs.Deciding.{answer_view};
 ghost use Rattle.admission.specs.declared.wide_refusal.WideRefusal.TheVariants.{Memory};
-ghost use Rattle.celbpf_c.specs.Output.{Writes, WritesDecision, WritesReply, WritesWideRefusal};
+ghost use Rattle.celbpf_calls.specs.Output.{Writes, WritesDecision, WritesDone, WritesReply, WritesWideRefusal};
 
 use crate::statuses::{run_status, wide_status};
 use admission::{Reply, RunError, WideRefusal};
@@ -41,6 +41,13 @@ fn write_reply(response: &[u8], allowed: bool, room: &mut [u8], len: &mut usize)
     }
 }
 
+/// Writes the text of a call that is done and returns the status.
+pub fn write_done(text: &[u8], room: &mut [u8], len: &mut usize) -> u32
+    ensures { WritesDone text.now result room.old room.new len.new }
+{
+    if write_text(text, room, len) { 0 } else { 8 }
+}
+
 /// Writes the line of a refusal, as the program `celbpf` prints it.
 pub fn write_refusal(alloc: Global, refusal: Refusal, room: &mut [u8], len: &mut usize)
     ensures { Writes (refusal_line refusal) room.old room.new len.new }
@@ -73,7 +80,7 @@ pub fn write_wide_refusal(
 
 /// Writes the text to the beginning of the buffer and returns whether it fits. If it does not, the
 /// buffer is unchanged. The length is set to the text's length in both cases.
-pub fn write_text(text: &[u8], room: &mut [u8], len: &mut usize) -> bool
+fn write_text(text: &[u8], room: &mut [u8], len: &mut usize) -> bool
     ensures writes { Writes text.now room.old room.new len.new }
     ensures fits { result ≡ nat_le (length text.now) (length room.old) }
 {

@@ -5,7 +5,7 @@ use Rattle.admission.specs.declared.run_error.RunError.{RunError}
 use Rattle.admission.specs.declared.wide_refusal.WideRefusal.{WideRefusal}
 use Rattle.cli.specs.Refusals.{refusal_line, run_refusal}
 use Rattle.cli.specs.WideTexts.{wide_line}
-use Rattle.celbpf_c.specs.Statuses.{run_status, wide_status}
+use Rattle.celbpf_calls.specs.Statuses.{run_status, wide_status}
 
 -- the text fits the buffer
 abbrev pub fits : List ℕ → List ℕ → Bool
@@ -18,6 +18,10 @@ with_text text room = if fits text room then text ++ drop (length text) room els
 -- a text is written to the buffer, and its length is returned
 abbrev pub Writes : List ℕ → List ℕ → List ℕ → ℕ → Type 0
 Writes text before after n = (after ≡ with_text text before) × (n ≡ length text)
+
+-- the text of a call that is done is written: status 0, or 8 if the buffer is too small
+abbrev pub WritesDone : List ℕ → ℕ → List ℕ → List ℕ → ℕ → Type 0
+WritesDone text status before after n = (status ≡ (if fits text before then 0 else 8)) × Writes text before after n
 
 -- a response is written: status 0 if it allows the request, 1 if it denies it, 8 if the buffer is too small
 abbrev pub WritesReply : List ℕ → Bool → ℕ → List ℕ → List ℕ → ℕ → Type 0

@@ -1,6 +1,6 @@
 //! The statuses of refusals.
 ghost use Rattle.std.specs.Prelude.{◌≡◌};
-ghost use Rattle.celbpf_c.specs.Statuses.{policy_status, run_status, wide_policy_status, wide_status};
+ghost use Rattle.celbpf_calls.specs.Statuses.{policy_status, run_status, wide_policy_status, wide_status};
 
 use admission::{PolicyRefusal, RunError, WideRefusal};
 use wide_policy::WidePolicyError;

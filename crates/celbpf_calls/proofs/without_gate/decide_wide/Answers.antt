@@ -1,9 +1,9 @@
--- Proofs of `without_gate::celbpf_review_wide`: the result meets the contract.
+-- Proofs of `without_gate::decide_wide`: the result meets the contract.
 
 use Rattle.admission.proofs.Standing.{of_one}
-use Rattle.celbpf_c.specs.WideCalls.{answered}
-use Rattle.celbpf_c.proofs.WideGates.{gate_of, told_refusal}
-use Rattle.celbpf_c.proofs.without_gate.celbpf_review_wide.Goals as goal
+use Rattle.celbpf_calls.specs.WideCalls.{answered}
+use Rattle.celbpf_calls.proofs.WideGates.{gate_of, told_refusal}
+use Rattle.celbpf_calls.proofs.without_gate.decide_wide.Goals as goal
 
 pub returns-in-Ok : goal.returns-in-Ok
 returns-in-Ok c =

@@ -1,7 +1,7 @@
 -- Proofs of `without_gate::reviewed`: the result meets the contract.
 
 use Rattle.admission.proofs.Standing.{of_one}
-use Rattle.celbpf_c.proofs.without_gate.reviewed.Goals as goal
+use Rattle.celbpf_calls.proofs.without_gate.reviewed.Goals as goal
 
 pub returns-clause-reviews : goal.returns-clause-reviews
 returns-clause-reviews c = c.decided_by.ensures.reviews _ _ c.in_ok-gate.ensures.compiles

@@ -1,0 +1,3 @@
+-- The proofs of `celbpf_calls`.
+
+pub mod WideGates
