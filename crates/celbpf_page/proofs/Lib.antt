@@ -1,0 +1,4 @@
+-- The proofs of `celbpf_page`.
+
+mod Refused
+mod Replies
