@@ -111,8 +111,12 @@ class Page:
 
     def open(self, path: Path) -> None:
         """Goes to a file, and waits until it is loaded."""
+        self.go(path.resolve().as_uri())
+
+    def go(self, address: str) -> None:
+        """Goes to an address, and waits until it is loaded."""
         self.events.clear()
-        self.call("Page.navigate", url=path.resolve().as_uri())
+        self.call("Page.navigate", url=address)
         while "Page.loadEventFired" not in self.events:
             self.take()
 
