@@ -216,8 +216,8 @@ class Tables(unittest.TestCase):
         versions = [{"name": "v1", "served": True}, {"name": "v2", "served": True}, {"name": "v3", "served": False}]
         names = {"kind": "Widget", "plural": "widgets"}
         definition = {"apiVersion": "apiextensions.k8s.io/v1", "kind": "CustomResourceDefinition"}
-        one = {**definition, "spec": {"group": "one.io", "names": names, "scope": "Cluster", "versions": versions[::2]}}
-        two = {**definition, "spec": {"group": "two.io", "names": names, "scope": "Cluster", "versions": versions}}
+        one: dict[str, Any] = {**definition, "spec": {"group": "one.io", "names": names, "scope": "Cluster", "versions": versions[::2]}}
+        two: dict[str, Any] = {**definition, "spec": {"group": "two.io", "names": names, "scope": "Cluster", "versions": versions}}
         resources = Resources()
         resources.define([one, two])
         for group, plural, is_alone in [

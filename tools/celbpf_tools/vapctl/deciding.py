@@ -10,7 +10,7 @@ import re
 from collections.abc import Container
 from dataclasses import replace
 from pathlib import Path
-from typing import Any, Iterator
+from typing import Any, Iterator, Optional
 
 from ..asking.gatekeeper import REFUSAL, without_file
 from ..manifests.kinds import Resources
