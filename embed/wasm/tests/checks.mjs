@@ -18,6 +18,7 @@ const bytesOf = text => Uint8Array.from(atob(text), one => one.charCodeAt(0));
 /** @param {Uint8Array} one @param {Uint8Array} other */
 const isSame = (one, other) => one.length === other.length && one.every((byte, place) => byte === other[place]);
 
+/** @param {Uint8Array} text */
 const shown = text => JSON.stringify(new TextDecoder().decode(text.slice(0, 200)));
 
 export class Checks {
@@ -43,7 +44,7 @@ export class Checks {
     const wanted = bytesOf(one.text);
     try {
       const { status, text } = this.celbpf.call(one.call, one.documents.map(bytesOf), one.numbers.map(BigInt));
-      const held = this.celbpf.exports?.heap_used() ?? 0n;
+      const held = /** @type {any} */ (this.celbpf.exports)?.heap_used() ?? 0n;
       if (held !== 0n) return `${held} bytes are still held`;
       if (status === one.status && isSame(text, wanted)) return '';
       return `wanted ${one.status} ${shown(wanted)}, got ${status} ${shown(text)}`;
@@ -99,7 +100,9 @@ export class Checks {
     /** @type {{ at: bigint, size: number, mark: number }[]} */
     const blocks = [];
     let faults = 0, seed = 1;
+    /** @param {number} most */
     const next = most => (seed = (seed * 48_271) % 2_147_483_647) % most;
+    /** @param {typeof blocks[0]} block */
     const drop = ({ at, size, mark }) => {
       const bytes = new Uint8Array(memory.buffer, Number(at), size);
       if (!bytes.every(byte => byte === mark) || at % 16n !== 0n) faults += 1;
@@ -142,8 +145,8 @@ export class Checks {
 
   /** The calls of the wrapper, on the first policy and review. */
   wrapper() {
-    const [policy, review] = this.cases[0].documents.map(bytesOf), text = one => new TextDecoder().decode(one);
-    const decided = this.celbpf.review(text(policy), review);
+    const [policy, review] = this.cases[0].documents.map(bytesOf);
+    const decided = this.celbpf.review(new TextDecoder().decode(policy), review);
     this.note('wrapper', 'review', decided.allowed === JSON.parse(decided.json).response.allowed ? '' : decided.json);
     const image = this.celbpf.compile(policy);
     this.note('wrapper', 'list', this.celbpf.list(image).endsWith('exit\n') ? '' : 'no listing');
@@ -167,11 +170,11 @@ export class Checks {
 }
 
 /**
- * @param {ConstructorParameters<typeof Uint8Array>[0] | Response} module @param {Case[]} cases
+ * @param {BufferSource | Response} module @param {Case[]} cases
  * @returns {Promise<{ told: string, faults: string[] }>}
  */
 export async function checked(module, cases) {
-  const checks = new Checks(await Celbpf.load(/** @type {any} */ (module)), cases);
+  const checks = new Checks(await Celbpf.load(module), cases);
   checks.wrapper();
   checks.compare();
   checks.notices();

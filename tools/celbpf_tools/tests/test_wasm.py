@@ -160,15 +160,16 @@ class Lowering(unittest.TestCase):
             self.assertIsNone(linking.lowering())
 
 
-class Places(unittest.TestCase):
-    def test_the_proved_one_comes_first(self) -> None:
-        with tempfile.TemporaryDirectory() as folder, mock.patch.object(making, "ROOT", Path(folder)):
-            self.assertIsNone(making.located())
-            for is_quick in (True, False):
-                file = making.place(is_quick) / "celbpf.wasm"
-                file.parent.mkdir(parents=True)
-                file.write_bytes(b"")
-                self.assertEqual(making.located(), file)
+class Making(unittest.TestCase):
+    def test_what_it_is_made_from(self) -> None:
+        asked = mock.Mock(stdout="all compiled toolchain of today\n")
+        with mock.patch("subprocess.run", return_value=asked):
+            proved_one, unproved_one = (making.made_from(is_quick) for is_quick in (False, True))
+        self.assertRegex(proved_one, "^all [0-9a-f]{64} toolchain of today\n$")
+        self.assertEqual(unproved_one, proved_one.replace("all", "compiled"))
+
+    def test_places(self) -> None:
+        self.assertEqual([making.place(is_quick).name for is_quick in (False, True)], ["wasm", "quick"])
 
 
 def stand_in(path: Path, script: str) -> None:

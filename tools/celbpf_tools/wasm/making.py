@@ -21,6 +21,8 @@ from .unproved import unproved_module
 
 NO_RT, NOT_BUILT = 10, 13
 NAMES = ("celbpf.wasm", "celbpf32.wasm")
+# the files beside this one that say how it is made
+MAKERS = ("linking", "making", "modules", "proved", "unproved")
 UNPROVED = "it is made of these sources without checking their proofs, in some two minutes"
 Ran = Callable[..., Any]
 
@@ -30,17 +32,11 @@ def place(is_quick: bool) -> Path:
     return ROOT / "crates" / CRATE / "out" / ("quick" if is_quick else "wasm")
 
 
-def located() -> Any:
-    """The module that is there, proved or else not, or `None`; it may be of other sources."""
-    found = (place(is_quick) / NAMES[0] for is_quick in (False, True))
-    return next((file for file in found if file.is_file()), None)
-
-
 def made_from(is_quick: bool) -> str:
     """A digest of what the module is made from, and the toolchain."""
     asked = subprocess.run([TOOLS / "sources", CRATE], capture_output=True, text=True, check=True)
     everything, compiled, toolchain = asked.stdout.strip().split(" ", 2)
-    own = [*sorted(EMBED.glob("*.c")), *sorted(Path(__file__).parent.glob("*.py"))]
+    own = [*sorted(EMBED.glob("*.c")), *(Path(__file__).with_name(f"{name}.py") for name in MAKERS)]
     parts = hashlib.sha256(b"".join(file.read_bytes() for file in own)).hexdigest()
     return f"{compiled if is_quick else everything} {parts} {toolchain}\n"
 
