@@ -201,6 +201,11 @@ esac"""
                 lowered = (False, "Node v20.0.0, celbpf32.wasm: other: wanted 0, got 1\n5 passed")
                 self.assertEqual(self.told(folder), [wanted, lowered])
 
+    def test_an_old_node_is_not_wide(self) -> None:
+        with tempfile.TemporaryDirectory() as folder:
+            stand_in(Path(folder, "node"), "exit 1")
+            self.assertFalse(engines.is_wide(f"{folder}/node"))
+
     def test_no_node(self) -> None:
         with tempfile.TemporaryDirectory() as folder:
             self.assertEqual(self.told(folder), [(True, "Node: left out, since there is no command node")])

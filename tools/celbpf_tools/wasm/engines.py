@@ -25,7 +25,8 @@ Told = Iterator[Tuple[bool, str]]
 
 
 def told_by(*words: Any) -> str:
-    return subprocess.run(words, capture_output=True, text=True, check=True).stdout.strip()
+    """What a command writes, also of one that fails."""
+    return subprocess.run(words, capture_output=True, text=True, check=False).stdout.strip()
 
 
 def is_wide(node: str) -> bool:
