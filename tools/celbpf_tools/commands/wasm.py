@@ -1,17 +1,17 @@
 """Makes the WebAssembly module of the proved calls, and compares its answers with the programs'.
 
-usage: tools/wasm [--quick] [--check] [--module FILE] [--programs FOLDER] [--to FOLDER]
+usage: tools/wasm [--quick] [--check [--seed N] [--count N]] [--module FILE] [--programs FOLDER] [--to FOLDER]
        tools/wasm --engines
 
 The module is `celbpf.wasm`, for engines with memories of 64 bits, and beside it `celbpf32.wasm` for the others, which
 `wasm-opt` makes if it is there and recent enough. It proves and builds the crate celbpf_page first, if it is not up to
 date. With `--quick` the module is compiled from the sources without checking their proofs. It prints where the module
 is, or copies it with its wrapper to FOLDER. `--check` compares responses, images, listings, sessions, translations and
-refusals with those of the programs, and tries hostile documents, in Node and in Chromium, if they are here; FOLDER has
-the programs celbpf and gatekeeper, or else they are those that `./celbpf` and `./gatekeeper` run. `--module` takes a
-module that is made already. `--engines` prints which engines are here that take it. Status 0 says that all was the same,
-1 that something was not, 10 that there is no rt, or no engine, 13 that the crate is not proved or that the module cannot
-be made.
+refusals with those of the programs, over the examples and N policies from a seed (100), and tries hostile documents, in
+Node and in Chromium, if they are here; FOLDER has the programs celbpf and gatekeeper, or else they are those that
+`./celbpf` and `./gatekeeper` run. `--module` takes a module that is made already. `--engines` prints which engines are
+here that take it. Status 0 says that all was the same, 1 that something was not, 10 that there is no rt, or no engine, 13
+that the crate is not proved or that the module cannot be made.
 """
 
 import argparse
@@ -30,12 +30,15 @@ from ..wasm.linking import EMBED, lowering
 from ..wasm.making import NAMES, NOT_BUILT, make
 
 NO_ENGINE = 10
+SEED = 31
 
 
 def words() -> argparse.Namespace:
     parser = parser_of(__doc__)
     parser.add_argument("--quick", action="store_true", help="compile the sources without checking their proofs")
     parser.add_argument("--check", action="store_true", help="compare the answers with those of the programs")
+    parser.add_argument("--seed", type=int, default=SEED, help=f"compare policies from this seed too ({SEED})")
+    parser.add_argument("--count", type=int, default=100, help="compare so many of them (100)")
     parser.add_argument("--module", metavar="FILE", type=Path, help="take this module, and make none")
     parser.add_argument("--programs", metavar="FOLDER", type=Path, help="compare with the programs in this folder")
     parser.add_argument("--engines", action="store_true", help="print which engines are here, and make nothing")
@@ -74,7 +77,7 @@ def compared(modules: list[Any], given: argparse.Namespace) -> int:
     with tempfile.TemporaryDirectory() as folder:
         asked, file = Path(folder, "asked"), Path(folder, "cases.json")
         asked.mkdir()
-        made = cases(Programs(celbpf, gatekeeper, asked))
+        made = cases(Programs(celbpf, gatekeeper, asked), given.seed, given.count)
         file.write_text(json.dumps(made))
         told = [*tell(in_node(modules, file)), *tell(in_browser(modules, file))]
     ran = [passed for passed, line in told if LEFT_OUT not in line]

@@ -10,6 +10,8 @@ from ..asking.gatekeeper import line_of, without_file
 from ..documents import one_in
 from ..entry import Stop
 from ..home import EXAMPLES, ROOT
+from ..seeded.cases import case_of
+from ..seeded.numbers import Numbers
 from ..testing.answers import Asked
 from ..testing.cases import files_of, read
 from .hostile import hostile
@@ -210,7 +212,25 @@ def of_hostile(programs: Programs) -> Iterator[dict[str, Any]]:
         yield case("hostile", one.name, "compile", [one.policy], *programs.compiled(one.policy), may=one.may_fail)
 
 
-def cases(programs: Programs) -> list[Any]:
-    """All of them; the first is a decision."""
+def of_seed(programs: Programs, seed: int, count: int) -> Iterator[dict[str, Any]]:
+    """So many policies from a seed, each with a review, of which some are spoiled."""
+    numbers = Numbers(seed)
+    for place in range(count):
+        given, name = case_of(numbers), f"{place} of seed {seed}"
+        beside = [given.namespace, given.params]
+        documents = [given.review, *beside]
+        answer = programs.decided(given.policy, given.review, *beside)
+        yield case("seeded responses", name, "review", [given.policy, *documents], *answer)
+        yield case("seeded translations", name, "translate", [given.policy], *programs.translated(given.policy))
+        status, image = programs.compiled(given.policy)
+        yield case("seeded images", name, "compile", [given.policy], status, image)
+        if not status:
+            answer = programs.debugged(image, documents, COMMANDS)
+            yield case("seeded listings", name, "list", [image], *programs.listed(image))
+            yield case("seeded sessions", name, "debug", [image, *documents, COMMANDS], *answer)
+
+
+def cases(programs: Programs, seed: int, count: int) -> list[Any]:
+    """All of them, with so many from a seed; the first is a decision."""
     parts = (of_examples, of_wide, of_refused, of_hostile)
-    return [one for part in parts for one in part(programs)]
+    return [*(one for part in parts for one in part(programs)), *of_seed(programs, seed, count)]
