@@ -49,7 +49,7 @@ def words() -> argparse.Namespace:
 def module_of(given: argparse.Namespace) -> Path:
     """The module that is given, or made."""
     if given.module:
-        return given.module.resolve()
+        return given.module.resolve(strict=True)
     try:
         return make(given.quick)
     except Differs as why:
