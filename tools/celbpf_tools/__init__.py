@@ -10,7 +10,7 @@
     asking       questions to the built program about a policy
     evaluator    what a policy answers to a review, written apart from the crates
     slots        which sub-expression each slot of a compiled policy belongs to
-    viewing      the page of a decision
+    playground   the page in which policies are decided and explained
     browsing     a headless browser, for tests of that page
     seeded       policies and reviews from a seed
     json_texts   documents from a seed as bytes, and what Python's json reads of them

@@ -28,6 +28,8 @@ REVIEW = {
     },
 }
 
+# the scripts of the page, with those that hold texts
+SCRIPTS = 7
 # whether an element has an attribute that is code
 HANDLERS = """[...document.querySelectorAll("*")].some((one) =>
   [...one.attributes].some((other) => other.name.startsWith("on")))"""
@@ -37,7 +39,7 @@ def hostile_faults(page: Page) -> Iterator[str]:
     """What of these texts became more than text."""
     if page.value("window.broken") is not None:
         yield "a text was run"
-    if page.value("document.scripts.length") != 2:
+    if page.value("document.scripts.length") != SCRIPTS:
         yield "a text became a script"
     if page.value("document.querySelectorAll('img, b').length"):
         yield "a text became an element"

@@ -1,13 +1,14 @@
 """Moves the slider of a page, and compares what it shows with a session of the debugger at the same steps."""
 
+import subprocess
 from typing import Any, Iterator
 
-from ..asking.program import Program
-from ..viewing.recording import REGISTERS, said
-from ..viewing.run import MOST_VALUE
-from ..viewing.trees import shortened
-from ..viewing.writing import printable
+from ..asking.program import NotAnswered, Program
 from .browser import Page
+
+REGISTERS = 11
+# the most characters of a value that is shown
+MOST_VALUE = 2_000
 
 # what the page shows at each position of the slider
 SHOWN = """(() => {
@@ -19,7 +20,7 @@ SHOWN = """(() => {
     slider.dispatchEvent(new Event("input"));
     found.push({
       at: text(document.getElementById("at")), frames: text(document.getElementById("frames")),
-      lines: rows("#listing"), registers: rows("#registers"), words: rows("#words"),
+      lines: rows("#listing"), registers: rows("#registers"), words: rows("#frame-words"),
     });
   }
   return found;
@@ -28,6 +29,24 @@ AT = 'document.getElementById("at").textContent'
 STEP = f"Number({AT}.split(' ')[1])"
 # keys by their names, with their numbers in Windows
 KEYS = {"ArrowRight": 39, "ArrowLeft": 37, "PageDown": 34, "PageUp": 33, "Home": 36, "End": 35}
+
+
+def said(program: Program, image: str, asked: str) -> list[Any]:
+    """The lines that a session writes; only a line feed ends one."""
+    words: list[Any] = [program.path, "debug", image, *program.documents]
+    ran = subprocess.run(words, input=asked.encode(), capture_output=True)
+    if ran.returncode:
+        raise NotAnswered(subprocess.CompletedProcess([], ran.returncode, "", ran.stderr.decode()))
+    return ran.stdout.decode().split("\n")[:-1]
+
+
+def printable(text: str) -> str:
+    """A text as the page shows it: characters that would not show, or would turn the text around, by their numbers."""
+    return "".join(one if one.isprintable() or one in "\n\t" else f"\\u{ord(one):04x}" for one in text)
+
+
+def shortened(text: str) -> str:
+    return text if len(text) <= MOST_VALUE else f"{text[:MOST_VALUE]}.. ({len(text)} characters)"
 
 
 def sessions(program: Program, image: str, shown: list[Any]) -> list[Any]:
@@ -55,7 +74,7 @@ def questions(one: dict[str, Any]) -> list[Any]:
 def answered(asked: str, line: str) -> str:
     """What a page shows for the answer to a question."""
     if asked.startswith("v "):
-        return printable(shortened(line.split(" ", 2)[2] if line.startswith("value ") else line, MOST_VALUE))
+        return printable(shortened(line.split(" ", 2)[2] if line.startswith("value ") else line))
     return f"0x{int.from_bytes(bytes.fromhex(''.join(line.split()[1:])), 'little'):016x}"
 
 
@@ -112,21 +131,29 @@ def pressed(page: Page, key: str, shift: bool = False) -> int:
     return page.value(STEP)
 
 
+def newest(page: Page) -> int:
+    """The step of the newest value that is shown, 0 if there is none."""
+    return page.value("Number(document.querySelector('#made tbody td')?.textContent ?? 0)")
+
+
 def keys_faults(page: Page) -> Iterator[str]:
     """Which keys and buttons do not go where they are to go."""
     last = page.value('Number(document.getElementById("slider").max)')
-    made = page.value("JSON.parse(document.getElementById('data').textContent).made.map((one) => one[0])")
     page.value('document.querySelector("button.go").click()')
     wanted = page.value('Number(document.querySelector("button.go").dataset.step)')
     if page.value(STEP) != wanted:
         yield "a button of a value does not show its step"
-    rows = [("Home", False, 0), ("ArrowRight", False, 1), ("ArrowLeft", False, 0), ("ArrowLeft", False, 0)]
-    rows += [("ArrowRight", True, made[0]), ("End", False, last), ("ArrowRight", False, last)]
-    rows += [("ArrowLeft", True, max(one for one in made if one < last))]
+    rows = [("Home", False, 0), ("ArrowRight", False, 1), ("ArrowLeft", False, 0), ("ArrowLeft", False, 0), ("End", False, last)]
+    rows += [("ArrowRight", False, last), ("ArrowLeft", False, last - 1)]
     for key, shift, step in rows:
         found = pressed(page, key, shift)
         if found != step:
             yield f"{'Shift ' if shift else ''}{key} shows step {found}, not {step}"
+    for key, end in (("ArrowRight", "Home"), ("ArrowLeft", "End")):
+        pressed(page, end)
+        found = pressed(page, key, True)
+        if found != newest(page) or found in (0, last):
+            yield f"Shift {key} shows step {found}, at which no value was made"
     pressed(page, "Home")
     part = page.value('document.getElementById("part").textContent')
     pressed(page, "PageDown")

@@ -8,6 +8,7 @@ from pathlib import Path
 from typing import Any
 
 from ..home import ROOT
+from ..playground import module
 from .texts import block, read, spans, tables
 
 OF_VAPCTL = "check|audit|state|test|reviews|why|lint|compile|translate|as-reviews|asm"
@@ -33,6 +34,8 @@ class Commands:
     def shell(self, text: str, asked: Any = '') -> Any:
         """The status and both outputs of a text that a shell runs."""
         path = {**os.environ, "PATH": f"{self.folder}:{os.environ['PATH']}", "CELBPF_PROGRAM": str(self.program)}
+        # the page of a decision is written here, and not opened: any file does for its module
+        path.setdefault(module.GIVEN, str(ROOT / "LICENSE"))
         ended = subprocess.run(text, shell=True, cwd=self.folder, env=path, text=True, input=asked, stdout=subprocess.PIPE,
                                stderr=subprocess.STDOUT, check=False)
         return ended.returncode, ended.stdout

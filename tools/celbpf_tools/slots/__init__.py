@@ -10,4 +10,5 @@ equal there is a map; so a map that is given is exact.
     expressions    the code of an expression
     layout         the code of a whole policy
     mapping        the map: `parts_of`, `SlotMap`, `Span`
+    checking       the map of a policy beside compiled beginnings of it
 """

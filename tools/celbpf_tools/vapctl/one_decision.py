@@ -6,6 +6,7 @@ from collections.abc import Iterator
 from pathlib import Path
 from typing import Any, Optional
 
+from ..documents import text_of
 from ..entry import Stop
 from ..manifests.sending import object_sent
 from .checking import add_old, add_request_words, refuse_user, resources_of, stop, stop_at, tell
@@ -81,11 +82,13 @@ class Decision:
     def __init__(self, given: argparse.Namespace, folder: Path):
         refuse_user(given)
         self.given, self.folder, self.inputs = given, folder, Inputs()
-        policies = [one for one in self.read(given.policy) if is_of(one, POLICY)]
+        found = self.read(given.policy)
+        policies = [one for one in found if is_of(one, POLICY)]
         self.policy = named(policies, given.name, POLICY, "--name", given.policy)
         self.review = named(self.read(given.review), given.object, "object", "--object", given.review)
         self.files: dict[str, Optional[str]] = {"policy": self.write("policy.json", policy_text(self.policy)),
                       "review": self.write("review.json", self.review_text())}
+        self.written = self.own_text(len(found) == 1)
         self.shown = [str(self.policy.place), f"{self.review.place} {self.review.title}"]
         for key, file in (("namespace", given.namespace_object), ("params", given.params)):
             self.files[key] = self.document(key, file) if file else None
@@ -98,6 +101,11 @@ class Decision:
         found = self.inputs.things([word])
         stop_at(self.inputs.troubles)
         return found
+
+    def own_text(self, is_alone: bool) -> str:
+        """The text of the policy as its author wrote it, if its file has nothing else and can be read again; or else what it says."""
+        file = Path(self.policy.place.file)
+        return text_of(file) if is_alone and file.is_file() else json.dumps(self.policy.value, indent=2, ensure_ascii=False)
 
     def write(self, name: str, text: str) -> str:
         path = self.folder / name

@@ -8,6 +8,7 @@ with the same variables.
 """
 
 import argparse
+import json
 import tempfile
 from pathlib import Path
 from typing import Any, Optional
@@ -21,18 +22,15 @@ from ..asking.texts import escaped, indented, on_one_line
 from ..asking.translating import program_of
 from ..asking.values import ERROR, Values
 from ..entry import Stop
-from ..slots.mapping import NotMapped
+from ..playground.building import with_case, written_page
 from ..testing import cases
 from ..testing.answers import Asked
-from ..viewing.page import Decision, page
 
 OUTCOMES = {"1": "skipped", "2": "rejected", "3": "denied", "4": "admitted"}
 RUNS = ("denied", "admitted")
 BOOLS = ("true", "false", ERROR)
 # before the lines of a tree
 INDENT = "      "
-# begins the line of a tree that says what to change
-CHANGE = "to be true: "
 # the most names of cases that a message lists
 MOST_NAMES = 20
 # stands for a message, to see whether the message is what is answered
@@ -78,15 +76,11 @@ def documents(given: argparse.Namespace, kept: Files) -> list[Any]:
 
 
 class Teller:
-    """The program, the parts of a policy, and the decision that is told, also to a page.
+    """The program, and the parts of a policy; `translated` has the text of each part's translation, if these are to be shown."""
 
-    `translated` has the text of each part's translation, if these are to be shown.
-    """
-
-    def __init__(self, program: Program, policy: dict[Any, Any], decision: Decision):
+    def __init__(self, program: Program, policy: dict[Any, Any]):
         self.program = program
         self.policy = policy
-        self.decision = decision
         self.parts = policies.evaluated(policy)
         self.translated: dict[Any, Any] = {}
 
@@ -114,8 +108,6 @@ class Teller:
             print(INDENT + escaped(line))
         if value == ERROR:
             print(*(indented(on_one_line(line)) for line in first_error(program, part.scope, part.text)), sep="\n")
-        self.decision.values[part.kind, part.place] = value
-        self.decision.hints[part.kind, part.place] = next((line for line in lines if line.startswith(CHANGE)), None)
         return value
 
     def tell_conditions(self) -> None:
@@ -142,7 +134,6 @@ class Teller:
         for part in self.of_kind("message"):
             if part.place == place:
                 self.tell_value(part)
-        self.decision.denials[place] = message, source
 
 
 def origin(program: Program, policy: dict[Any, Any], place: int) -> str:
@@ -157,24 +148,22 @@ def origin(program: Program, policy: dict[Any, Any], place: int) -> str:
     return "its message" if validation.get("message") else f"its expression, since {why}"
 
 
-def tell(program: Program, policy: dict[Any, Any], verdict: list[Any], shows_translation: bool = False) -> Decision:
-    """Prints all of a verdict, whose lines these are; the same for a page."""
+def tell(program: Program, policy: dict[Any, Any], verdict: list[Any], shows_translation: bool = False) -> None:
+    """Prints all of a verdict, whose lines these are."""
     outcome = OUTCOMES[verdict[0].split()[1]]
     print(outcome)
-    decision = Decision(policy, outcome)
-    teller = Teller(program, policy, decision)
+    teller = Teller(program, policy)
     if shows_translation:
         teller.translated = {(part.kind, part.place): part.text for part in policies.parts(program.document(policy))}
     teller.tell_conditions()
     if outcome not in RUNS:
         print("variables and validations are not asked")
-        return decision
+        return
     for part in (*teller.of_kind("variable"), *teller.of_kind("validation")):
         teller.tell_value(part)
     for line in verdict:
         if line.startswith("validation "):
             teller.tell_denial(int(line.split()[1]))
-    return decision
 
 
 def files(given: argparse.Namespace) -> list[Any]:
@@ -187,17 +176,27 @@ def files(given: argparse.Namespace) -> list[Any]:
     return [given.policy, given.review, *beside]
 
 
-def write_page(given: argparse.Namespace, program: Program, decision: Decision) -> None:
-    """Writes the page of a decision."""
-    decision.files = files(given)
+def shown_text(file: Optional[str]) -> str:
+    """The text of a document as a page shows it: one of a line is laid out."""
+    text = Path(file).read_text(encoding="utf-8", errors="surrogatepass") if file else ""
     try:
-        Path(given.html).write_text(page(decision, program), encoding="utf-8")
-    except NotMapped as why:
-        raise Stop(f"{given.html} is not written: {why}") from why
+        is_line = text.lstrip().startswith("{") and text.strip().count("\n") == 0
+        return json.dumps(json.loads(text), indent=2, ensure_ascii=False) if is_line else text
+    except ValueError:
+        return text
+
+
+def write_page(given: argparse.Namespace, kept: Files, policy: str, text: str) -> None:
+    """Writes the page with the case: the policy as its author wrote it, and the documents that were asked."""
+    named = {key: shown_text(kept.maybe(getattr(given, key))) for key in ("review", "namespace", "params")}
+    written = getattr(given, "written", "") or shown_text(policy)
+    case = {"given": {"policy": written, **named}, "files": files(given)}
+    Path(given.html).write_text(with_case(text, case), encoding="utf-8", errors="backslashreplace")
 
 
 def told(given: argparse.Namespace) -> int:
     """Prints why a policy decides as it does, by these words; the status. `shown` among them names the files of a page."""
+    text = written_page() if given.html else ""
     with tempfile.TemporaryDirectory() as folder, tempfile.TemporaryDirectory() as documents_folder:
         if given.case is not None:
             given = of_case(given, Path(documents_folder))
@@ -205,8 +204,7 @@ def told(given: argparse.Namespace) -> int:
         policy, beside = asked.file(str(given.policy), Path()), documents(given, asked.files)
         program = program_of(given, folder, beside)
         response = program.response(policy)
-        decision = tell(program, policies.read(policy), program.verdict(policy), given.translated)
-        decision.message = response.get("status", {}).get("message", "")
+        tell(program, policies.read(policy), program.verdict(policy), given.translated)
         if given.html:
-            write_page(given, program, decision)
+            write_page(given, asked.files, policy, text)
     return 0 if response["allowed"] else 1

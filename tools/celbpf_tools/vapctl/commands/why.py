@@ -52,6 +52,8 @@ def refuse_words(given: argparse.Namespace) -> None:
         raise Stop("--html, --namespace-object, --translated and --profile are for one policy", WORDS)
     if given.case is not None and has_own(given):
         raise Stop("a case has its own policy, request, params and namespace", WORDS)
+    if given.html and given.profile:
+        raise Stop("--html shows a policy as clusters store it, without --profile", WORDS)
     if given.translated and given.profile:
         raise Stop("with --profile nothing is translated", WORDS)
     if not is_whole and (given.case is None) == (given.review is None):
@@ -87,7 +89,7 @@ def asked(given: argparse.Namespace, folder: Path) -> argparse.Namespace:
     if given.case is not None:
         return argparse.Namespace(policy=given.policy, review=None, namespace=None, params=None, **same)
     decision = Decision(given, folder)
-    return argparse.Namespace(**decision.files, **same, shown=decision.shown)
+    return argparse.Namespace(**decision.files, **same, shown=decision.shown, written=decision.written)
 
 
 def of_all(given: argparse.Namespace, folder: Path) -> int:
