@@ -4,7 +4,7 @@ usage: tools/package [--programs FOLDER] [--library FILE] [--no-library] [--to F
 
 They are `celbpf_VERSION_ARCH.deb` and `.tar.xz` in the folder `dist`. Installed are celbpf, gatekeeper, vapctl, also as
 kubectl-vap, a man page of each, completion for bash and zsh, the library for C, Go, Python and Rust, the pages for users,
-the examples and the licence.
+the page in which policies are decided, if `tools/wasm` has made its module, the examples and the licence.
 FOLDER of `--programs` has the programs to pack, and `libcelbpf_c.a`; they are packed as they are. Without it `tools/build`
 proves and builds those of the repository first if they are not up to date, with the library. FILE is another library to
 pack; `--no-library` leaves it out. `--tar` makes the tar archive alone.

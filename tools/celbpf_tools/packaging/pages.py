@@ -8,7 +8,7 @@ from ..home import ROOT
 
 PAGES = (
     "ASSEMBLER", "CEL", "CLUSTER", "CLUSTERS", "CODE", "COMMANDS", "DEBUGGER", "EMBEDDING", "GATEKEEPER", "GLOSSARY", "HELPERS",
-    "INSTALL", "LANGUAGE", "MACHINE", "PERFORMANCE", "PIPELINES", "POLICIES", "TUTORIAL", "VALUES", "VAPCTL", "WHY",
+    "INSTALL", "LANGUAGE", "MACHINE", "PERFORMANCE", "PIPELINES", "PLAYGROUND", "POLICIES", "TUTORIAL", "VALUES", "VAPCTL", "WHY",
 )
 EXAMPLES = sorted(str(path.relative_to(ROOT)) for path in ROOT.glob("examples/**/README.md"))
 INSTALLED = ("README.md", "CHANGELOG.md", *(f"docs/{page}.md" for page in PAGES), *EXAMPLES)
@@ -17,9 +17,10 @@ HOME = "/usr/share/doc/celbpf"
 LEFT_OUT = {
     "docs/EMBEDDING.md": ("Install",),
     "docs/INSTALL.md": ("Make the package",),
+    "docs/PLAYGROUND.md": ("Make the page",),
 }
 # what a paragraph has that says how the programs or the package are made
-BUILDING = re.compile(r"`rt\b|^    rt\b|^passes all proofs\b|\btools/(?:quick|build)\b|\bcrates/\w+/out\b|`crates\.txt`")
+BUILDING = re.compile(r"`rt\b|^    rt\b|^passes all proofs\b|\btools/(?:quick|build|wasm)\b|\bcrates/\w+/out\b|`crates\.txt`")
 LINK = re.compile(r"\[([^\]]*)\]\(([^)#\s]+)(#[^)\s]*)?\)")
 NAMES = [
     (re.compile(r"`(?:tools|research)/([^`]+)`"), r"`\1` of the repository"),

@@ -2,12 +2,15 @@
 
 import gzip
 import shutil
+import sys
 import tempfile
 from pathlib import Path
 from typing import Any, Optional
 
 from ..embedding.building import EMBED, installed, made
 from ..home import PACKAGE, ROOT
+from ..playground import module
+from ..playground.building import PLACE, page
 from ..vapctl.main import DESCRIPTION
 from ..vapctl.main import NAMES as VAPCTL
 from ..vapctl.main import parser
@@ -17,7 +20,7 @@ from .completion import NAMES, bash, zsh
 
 # the files and the packages of Python that `vapctl` needs, which need nothing of the repository
 FILES = ("__init__.py", "aliases.py", "documents.py", "entry.py", "home.py", "yaml_loader.py", "yaml_words.py")
-MODULES = ("asking", "assembling", "testing", "evaluator", "manifests", "slots", "viewing", "dap", "vapctl")
+MODULES = ("asking", "assembling", "testing", "evaluator", "manifests", "playground", "slots", "dap", "vapctl")
 ENTRY = '''#!/usr/bin/env python3
 """{what}"""
 
@@ -63,8 +66,8 @@ def put_programs(prefix: Path, programs: dict[str, Any]) -> None:
 def put_modules(prefix: Path) -> None:
     """The modules of Python that `vapctl` needs."""
     package = prefix / "lib" / "celbpf" / "celbpf_tools"
-    for module in MODULES:
-        copied(PACKAGE / module, package / module)
+    for name in MODULES:
+        copied(PACKAGE / name, package / name)
     for file in FILES:
         copied(PACKAGE / file, package / file)
 
@@ -107,6 +110,15 @@ def put_documents(prefix: Path) -> None:
     copied(ROOT / "LICENSE", doc / "copyright")
 
 
+def put_playground(prefix: Path) -> None:
+    """The page in which policies are decided, with the proved module; if there is none, the page is left out."""
+    file = module.packed()
+    if file:
+        written(prefix / PLACE, page(str(file)))
+    else:
+        print(f"the page is left out: {module.NONE}", file=sys.stderr)
+
+
 def put_completion(prefix: Path) -> None:
     folder = prefix / "share" / "bash-completion" / "completions"
     written(folder / "celbpf", bash())
@@ -122,6 +134,7 @@ def plant(prefix: Path, programs: dict[str, Any], library: Optional[Path], versi
     put_vapctl(prefix, version)
     put_pages(prefix, version)
     put_documents(prefix)
+    put_playground(prefix)
     put_completion(prefix)
     if library:
         put_library(prefix, library)
