@@ -41,7 +41,7 @@ help_text =
 
 -- the text for `--version`
 unfoldable pub version_text : Text
-version_text = codes "gatekeeper 0.20261130\n"
+version_text = codes "gatekeeper 0.20261201\n"
 
 abbrev pub is_help : Text → Bool
 is_help word = bytes_eq word (codes "--help")

@@ -118,5 +118,5 @@ a line, with a line on standard output.
 fn version_text() -> &'static str
     ensures { result.now ≡ version_text }
 {
-    "gatekeeper 0.20261130\n"
+    "gatekeeper 0.20261201\n"
 }

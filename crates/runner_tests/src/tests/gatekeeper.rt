@@ -198,7 +198,7 @@ const STARTS: [(&str, &str, u8, &str, &str); 29] = [
     ("gatekeeper --policy few --policy none --profile", TWO, 3, "", "none: K1"),
     ("gatekeeper --policy few --leave-messages", TWO, 2, "", "U1"),
     ("gatekeeper --policy few --profile --profile", TWO, 2, "", "U1"),
-    ("gatekeeper --version --policy missing", TWO, 0, "gatekeeper 0.20261130\n", ""),
+    ("gatekeeper --version --policy missing", TWO, 0, "gatekeeper 0.20261201\n", ""),
 ];
 
 /// Translations.
