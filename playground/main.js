@@ -122,7 +122,7 @@ class Page {
       dataset.decided ??= String(Math.round(performance.now()));
       this.editors.showRequest(decision.isManifest);
       showJson("response", decision.response);
-      showJson("made-review", decision.isManifest ? decision.review : "");
+      showJson("made-review", decision.review);
       this.loadExamples();
       await this.explain(decision, token);
       this.keepAddress();

@@ -20,7 +20,8 @@ const TOO_DEEP = "it is nested too deep for this browser";
 /** @typedef {import("./case.js").Case} Case */
 /** @typedef {import("../refusals/refusing.js").Refusal} Refusal */
 /**
- * `outcome` is `allowed`, `denied`, `refused` (the policy is not accepted), `undecided`, or `unread` (a field cannot be used).
+ * `outcome` is `allowed`, `denied`, `refused` (the policy is not accepted), `undecided`, or `unread` (a field cannot be used);
+ * `review` is the one that is made of a manifest.
  * @typedef {{ outcome: string, message: string, name: string, response: string, isManifest: boolean, review: string,
  *   troubles: import("./case.js").Trouble[], notices: string[], words: string }} Decision
  */
@@ -54,7 +55,8 @@ export class Explaining {
   /** @returns {Decision} */
   decision() {
     const { policy, policyText, isManifest, troubles, notices, documents } = this.prepared;
-    const decision = { outcome: "unread", message: "", name: nameOf(policy), response: "", isManifest, review: documents.review ?? "", troubles, notices, words: "" };
+    const review = isManifest ? documents.review ?? "" : "";
+    const decision = { outcome: "unread", message: "", name: nameOf(policy), response: "", isManifest, review, troubles, notices, words: "" };
     if (troubles.length) return decision;
     try {
       const response = this.program.response(policyText), { allowed, status } = readJson(response).response;
