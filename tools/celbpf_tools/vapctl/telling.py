@@ -21,6 +21,7 @@ from ..asking.reasons import reasons
 from ..asking.texts import escaped, indented, on_one_line
 from ..asking.translating import program_of
 from ..asking.values import ERROR, Values
+from ..documents import text_of
 from ..entry import Stop
 from ..playground.building import with_case, written_page
 from ..testing import cases
@@ -66,7 +67,9 @@ def of_case(given: argparse.Namespace, folder: Path) -> argparse.Namespace:
     at, asked = case.file.parent, Asked(folder)
     review = asked.write("review.json", asked.review(case))
     found = {key: asked.file(case.beside[key], at) for key in ("policy", "namespace", "params") if key in case.beside}
-    return argparse.Namespace(**{**vars(given), **found, "review": review, "tests": str(case.file)})
+    policy = case.beside["policy"]
+    written = text_of(at / policy) if isinstance(policy, str) else ""
+    return argparse.Namespace(**{**vars(given), **found, "review": review, "tests": str(case.file), "written": written})
 
 
 def documents(given: argparse.Namespace, kept: Files) -> list[Any]:
