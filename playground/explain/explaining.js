@@ -43,9 +43,10 @@ const wordsOf = (why) => (why instanceof RangeError ? TOO_DEEP : meaningOf(why.m
 
 /** One case, with its documents and its run. */
 export class Explaining {
-  /** @param {import("../asking/program.js").Calls} calls @param {Case} given */
-  constructor(calls, given) {
+  /** @param {import("../asking/program.js").Calls} calls @param {Case} given @param {number} [patience] */
+  constructor(calls, given, patience = PATIENCE) {
     this.given = given;
+    this.patience = patience;
     this.prepared = prepared(given);
     this.program = new Program(calls, this.prepared.documents);
     /** @type {import("./shown_run.js").ShownRun | null} */
@@ -96,7 +97,7 @@ export class Explaining {
   explanation() {
     try {
       const shown = this.run(), { policy } = this.prepared;
-      this.program.end = performance.now() + PATIENCE;
+      this.program.end = performance.now() + this.patience;
       const made = new Parts(this.program, policy, shown);
       const names = parts(policy).filter((part) => part.kind === "variable").map((part) => part.name);
       const review = new ReviewTree(readsOf(shown.found, names, shown.run.values)).all(shown.run.values);

@@ -72,6 +72,6 @@ function source({ source, begin = 0, end = 0 }) {
  * @param {Refusal[]} refusals */
 export function showRefusals(refusals) {
   fill(byId("troubles"), ...refusals.map((one) => element("li", {},
-    placeButton("policy", one.line, one.column), " ", element("b", {}, one.title), ": ", ...withCode(one.words), element("span", { class: "of" }, ` (${one.code})`),
+    placeButton("policy", one.line, one.column), " ", element("b", {}, one.title), ": ", ...withCode(one.words), one.code && element("span", { class: "of" }, ` (${one.code})`),
     source(one), one.hint && element("p", { class: "hint" }, "write ", ...withCode(one.hint)))));
 }

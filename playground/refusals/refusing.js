@@ -186,7 +186,9 @@ class Refusing {
   ofWhole(refusal) {
     const isOther = refusal === "K2" && this.policy.apiVersion !== API_VERSION;
     const words = isOther ? `its apiVersion is ${this.policy.apiVersion}, and not ${API_VERSION}` : meaningOf(refusal);
-    this.found.push({ title: "the policy", words, code: refusal, hint: "", ...this.position(this.marks.get(keyMark(isOther ? ["apiVersion"] : ["spec"]))) });
+    // what the engine cannot do has no code
+    const code = /^[A-Z]+[0-9]+/.test(refusal) ? refusal : "";
+    this.found.push({ title: "the policy", words, code, hint: "", ...this.position(this.marks.get(keyMark(isOther ? ["apiVersion"] : ["spec"]))) });
     return null;
   }
 }

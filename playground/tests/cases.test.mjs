@@ -14,7 +14,7 @@ import { ASKING, CALLS, IS_MODULE, python, ROOT } from "./giving.mjs";
 
 const EXAMPLES = join(ROOT, "examples", "policies");
 const HEAD = "apiVersion: admissionregistration.k8s.io/v1\nkind: ValidatingAdmissionPolicy\nmetadata: {name: x}\nspec:\n";
-const explaining = (given) => new Explaining(CALLS, { ...EMPTY, ...given });
+const explaining = (given) => new Explaining(CALLS, { ...EMPTY, ...given }, Infinity);
 const reviewed = (object) => JSON.stringify({ apiVersion: "admission.k8s.io/v1", kind: "AdmissionReview", request: { uid: "1", object } });
 const policyOf = (...expressions) => JSON.stringify({
   apiVersion: "admissionregistration.k8s.io/v1", kind: "ValidatingAdmissionPolicy", spec: { validations: expressions.map((expression) => ({ expression })) },

@@ -41,7 +41,7 @@ const SPECS = [
   "  validations: x\n", "  variables:\n  - name: 1a\n    expression: 'true'\n  validations:\n  - expression: 'true'\n", "  variables:\n  - expression: 'true'\n  validations:\n  - expression: 'true'\n",
   "  matchConditions:\n  - name: a b\n    expression: 'true'\n  validations:\n  - expression: 'true'\n", "  matchConditions:\n  - name: ab\n    expression: variables.x\n  validations:\n  - expression: 'true'\n",
   "  validations:\n  - expression: 'true'\n    messageExpression: '1'\n", "  validations:\n  - expression: '1'\n  - expression: 'nope'\n", "  validations:\n  - {}\n", "  unknown: 1\n  validations:\n  - expression: 'true'\n",
-  `  validations:\n${"  - expression: 'true'\n".repeat(65)}`, `  validations:\n  - expression: '${Array.from({ length: 300 }, (_, place) => `object.a${place}`).join(" && ")}'\n`,
+  `  validations:\n${"  - expression: 'true'\n".repeat(65)}`, `  validations:\n  - expression: '${Array.from({ length: 200 }, (_, place) => `object.a${place}`).join(" && ")}'\n`,
 ];
 const POLICIES = [...EXPRESSIONS.map((one) => `${HEAD}  validations:\n    - expression: ${JSON.stringify(one)}\n`), ...SPECS.map((spec) => HEAD + spec)];
 
