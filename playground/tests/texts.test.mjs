@@ -83,6 +83,29 @@ for (const [name, text, words, line, column] of FAULTS) {
   });
 }
 
+const COMMENTS = [
+  ["single quotes", "- name: 'a' # first\n  b: 1\n", '[{"name":"a","b":1}]'], ["double quotes", "a: \"x\"  # c\nb: 'y' # d", '{"a":"x","b":"y"}'],
+  ["an item", "- 'a' # c\n- \"b\"\n", '["a","b"]'], ["brackets", "a: ['x' # c\n  , z] # d\nb: {c: \"d\"} # e\n", '{"a":["x","z"],"b":{"c":"d"}}'],
+  ["a key", "'a' : \"b\" # c\n", '{"a":"b"}'],
+];
+for (const [name, text, json] of COMMENTS) test(`a comment after a quoted text: ${name}`, () => assert.equal(writeJson(readYaml(text)[0]), json));
+
+test("a sign right after a quoted text begins no comment", () => assert.throws(() => readYaml("a: 'b'#c\n"), Fault));
+
+const LONG = 1_000_000;
+const LONG_TEXTS = [
+  ["double quotes", `a: "${"x".repeat(LONG)}"\n`], ["single quotes", `a: '${"x".repeat(LONG)}'\n`], ["words in quotes", `a: "${"it's a ".repeat(LONG / 7)}"\n`],
+  ["escapes", `a: "${"\\n".repeat(LONG / 2)}"\n`], ["a plain text", `a: ${"x".repeat(LONG)}\n`], ["brackets on a line", `a: {${Array.from({ length: LONG / 20 }, (_, n) => `k${n}: "x"`)}}\n`],
+];
+for (const [name, text] of LONG_TEXTS) {
+  test(`a long text is read in time that grows as it does: ${name}`, () => {
+    const begin = performance.now();
+    readYaml(text, []);
+    // what reads a line again for each character takes minutes
+    assert.ok(performance.now() - begin < 3000);
+  });
+}
+
 test("JSON nested deep is told, and no fault of the reader", () => {
   assert.throws(() => readDocuments("[".repeat(100000)), Fault);
   assert.throws(() => readDocuments("a:\n".repeat(1) + Array.from({ length: 400 }, (_, n) => `${" ".repeat(n)}a:\n`).join("")), Fault);

@@ -18,6 +18,8 @@ export const keyMark = (path) => `key ${JSON.stringify(path)}`;
 
 // the most lists and maps that are inside one another
 const DEEPEST = 300;
+// a colon after blanks, at the end of a key
+const COLON = / *:(?=[ \n]|$)/y;
 const MARKER = /^(?:---|\.\.\.)(?=[ \n]|$)/;
 
 /** A text that is read. Places are those of the text. */
@@ -60,9 +62,14 @@ export class Reader {
     return this.at >= this.text.length;
   }
 
+  /** Whether a line begins here. */
+  get isLineBegin() {
+    return this.at === 0 || this.text[this.at - 1] === "\n";
+  }
+
   /** Whether a line begins here that begins or ends a document. */
   isMarker() {
-    return this.column() === 0 && MARKER.test(this.text.slice(this.at, this.at + 4));
+    return this.isLineBegin && MARKER.test(this.text.slice(this.at, this.at + 4));
   }
 
   /** Skips blanks on this line, and a comment. */
@@ -70,18 +77,19 @@ export class Reader {
     const before = this.at;
     while (this.peek() === " ") this.at += 1;
     if (this.peek() === "\t") this.refuse("a tab is no indentation; write blanks");
-    if (this.peek() === "#" && (this.at > before || this.column() === 0)) while (!this.isEnd && this.peek() !== "\n") this.at += 1;
+    if (this.peek() === "#" && (this.at > before || this.isLineBegin)) while (!this.isEnd && this.peek() !== "\n") this.at += 1;
   }
 
   /** Goes to the next content; whether it is on another line. */
   skipToContent() {
-    const line = this.text.lastIndexOf("\n", this.at - 1);
+    let isOther = false;
     this.skipBlanks();
     while (this.peek() === "\n") {
+      isOther = true;
       this.at += 1;
       this.skipBlanks();
     }
-    return this.text.lastIndexOf("\n", this.at - 1) !== line;
+    return isOther;
   }
 
   /** Whether an item of a list begins here. */
@@ -262,8 +270,7 @@ export class Reader {
     if (mark === "|" || mark === ">") return this.texted(at, readBlockText(this, around));
     if (mark === '"' || mark === "'") {
       const found = this.texted(at, readQuoted(this));
-      while (this.peek() === " ") this.at += 1;
-      if (this.peek() === ":" && this.isGap(1)) this.refuse("a text has `: ` after it; put all of it into quotes");
+      this.refuseColon("a text has `: ` after it; put all of it into quotes");
       return found;
     }
     const { text, origins } = readPlain(this, around, false), value = plainValue(text, at);
@@ -285,14 +292,15 @@ export class Reader {
     this.mark(at);
     this.at += 1;
     const found = mark === "[" ? this.flowList(at) : this.flowMap(at);
-    if (this.path.length === 0 || this.column(at) >= 0) this.afterFlow();
+    this.refuseColon("a key is a list or a map; put a text that begins with `{` or `[` into quotes", this.at);
     return found;
   }
 
-  /** What follows a bracket that closes is no colon. */
-  afterFlow() {
-    const rest = /^ *:(?=[ \n]|$)/.exec(this.text.slice(this.at, this.at + 80));
-    if (rest) this.refuse("a key is a list or a map; put a text that begins with `{` or `[` into quotes");
+  /** Refuses a colon after a value on its line. A comment after it is left, with the blanks before it.
+   * @param {string} words @param {number} [at] the place that is told, by default the colon */
+  refuseColon(words, at) {
+    COLON.lastIndex = this.at;
+    if (COLON.test(this.text)) this.refuse(words, at ?? COLON.lastIndex - 1);
   }
 
   flowText() {

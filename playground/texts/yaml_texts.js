@@ -115,6 +115,9 @@ const ESCAPES = {
 /** @type {Record<string, number>} */
 const NUMBERED = { x: 2, u: 4, U: 8 };
 
+// characters of a quoted text; the first may be one that is read otherwise in the other quotes
+const RUN = /[^][^ \t\n"'\\]*/y;
+
 /** A quoted text.
  * @param {Reader} reader */
 export function readQuoted(reader) {
@@ -133,11 +136,17 @@ export function readQuoted(reader) {
       return made;
     } else if (mark === "\\" && quote === '"') readEscape(reader, made);
     else if (" \t\n".includes(mark)) readGap(reader, made);
-    else {
-      made.copy(mark, at);
-      reader.at += 1;
-    }
+    else readRun(reader, made);
   }
+}
+
+/** The characters of a quoted text up to one that is read otherwise.
+ * @param {Reader} reader @param {Made} made */
+function readRun(reader, made) {
+  RUN.lastIndex = reader.at;
+  const [run] = /** @type {RegExpExecArray} */ (RUN.exec(reader.text));
+  made.copy(run, reader.at);
+  reader.at += run.length;
 }
 
 /** Blanks of a quoted text, or line ends that are folded.
