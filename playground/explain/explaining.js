@@ -10,6 +10,7 @@ import { meaningOf } from "../refusals/meanings.js";
 import { prepared } from "./case.js";
 import { Parts } from "./parts.js";
 import { ReviewTree } from "./review_tree.js";
+import { documentTroubles } from "./refused_documents.js";
 import { runData } from "./run_data.js";
 import { shownRun } from "./shown_run.js";
 
@@ -73,6 +74,8 @@ export class Explaining {
   notDecided(why) {
     const ofPolicy = this.program.refusal(this.prepared.policy);
     if (ofPolicy) return { outcome: "refused", words: meaningOf(ofPolicy), message: ofPolicy };
+    const troubles = documentTroubles(this.given, why.line);
+    if (troubles.length) return { outcome: "unread", troubles };
     return { outcome: "undecided", words: meaningOf(why.line), message: why.line };
   }
 

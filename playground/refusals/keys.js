@@ -6,8 +6,8 @@ import { TABLES } from "../data/tables.js";
 import { closest } from "../reviews/spelling.js";
 
 /** @typedef {(string | number)[]} Path */
-/** A key that is refused, with its value, or with what is missing in it.
- * @typedef {{ path: Path, value: any, missing?: string }} Key */
+/** A key that is refused, with its value, or with what is missing in it; `repeats` is the item that has the same name.
+ * @typedef {{ path: Path, value: any, missing?: string, repeats?: number }} Key */
 
 // what an item of each list has at the least
 /** @type {Record<string, Record<string, any>>} */
@@ -58,9 +58,16 @@ export class Keys {
     for (const [place, item] of items.entries()) {
       const path = ["spec", key, place];
       if (this.inList(key, [item])) return this.ofItem(key, path, item);
-      if (this.inList(key, items.slice(0, place + 1))) return { path, value: item };
+      if (this.inList(key, items.slice(0, place + 1))) return this.ofRepeated(items, path);
     }
     return { path: ["spec", key], value: items };
+  }
+
+  /** An item with which a list is refused; its name, if an item before it has the same.
+   * @param {any[]} items @param {Path} path @returns {Key} */
+  ofRepeated(items, path) {
+    const place = Number(path[2]), item = items[place], before = items.slice(0, place).findIndex((one) => one.name === item.name);
+    return item.name !== undefined && before >= 0 ? { path: [...path, "name"], value: item.name, repeats: before } : { path, value: item };
   }
 
   /** The first key of an item that is refused, or the one that is missing.
@@ -101,8 +108,9 @@ function knownBeside(path) {
 
 /** Why a key is refused; empty if that is not known.
  * @param {Key} key @returns {string} */
-export function keyCause({ path, value, missing }) {
+export function keyCause({ path, value, missing, repeats }) {
   if (missing) return `${missing} is missing`;
+  if (repeats !== undefined) return `the name ${shown(value)} is that of item ${repeats} of ${path[1]} too`;
   const name = String(path[path.length - 1]), known = knownBeside(path);
   if (!known) return "";
   if (!(name in known)) {

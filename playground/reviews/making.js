@@ -1,12 +1,20 @@
 // The review that an API server would send of an object in a manifest.
 
 import { TABLES } from "../data/tables.js";
+import { pathText } from "../refusals/keys.js";
 import { isRecord, writeJson } from "../texts/json.js";
 import { writeQuantities } from "./quantities.js";
 import { near } from "./spelling.js";
 
-/** An object of which no review is made, and why. */
-export class NoReview extends Error {}
+/** An object of which no review is made, and why; `path` is what is wrong in it. */
+export class NoReview extends Error {
+  /** @param {string} words @param {any} thing @param {(string | number)[]} [path] */
+  constructor(words, thing, path = []) {
+    super(words);
+    this.thing = thing;
+    this.path = path;
+  }
+}
 
 /** @typedef {{ group: string, version: string, kind: string, plural: string, namespaced: boolean }} Resource */
 /** Who asks for what.
@@ -77,32 +85,33 @@ function advice(group, kind) {
 /** The resource of an object; objects beside it may define its kind.
  * @param {any} thing @param {any[]} beside @returns {Resource} */
 function resourceOf(thing, beside) {
-  if (typeof thing.apiVersion !== "string" || typeof thing.kind !== "string") throw new NoReview("it has no apiVersion and kind, so it is neither an AdmissionReview nor an object");
+  if (typeof thing.apiVersion !== "string" || typeof thing.kind !== "string") throw new NoReview("it has no apiVersion and kind, so it is neither an AdmissionReview nor an object", thing);
   const [group, version] = groupVersion(thing.apiVersion);
   const defined = beside.filter((one) => isRecord(one) && one.kind === "CustomResourceDefinition").flatMap(served);
   const found = [...defined, ...builtIn()].find((one) => one.group === group && one.version === version && one.kind === thing.kind);
-  if (!found) throw new NoReview(`the kind ${thing.apiVersion} ${thing.kind} is not known${advice(group, thing.kind) || "; paste its CustomResourceDefinition after it, between lines of ---"}`);
+  if (!found) throw new NoReview(`the kind ${thing.apiVersion} ${thing.kind} is not known${advice(group, thing.kind) || "; paste its CustomResourceDefinition after it, between lines of ---"}`, thing, ["kind"]);
   return found;
 }
 
 /** Refuses metadata that an API server takes as texts alone.
- * @param {any} metadata */
-function refuseNoTexts(metadata) {
-  const given = [["name", metadata.name], ["namespace", metadata.namespace], ["generateName", metadata.generateName]];
+ * @param {any} thing */
+function refuseNoTexts(thing) {
+  const { metadata } = thing, given = ["name", "namespace", "generateName"].map((key) => ({ path: [key], name: key, one: metadata[key] }));
   for (const key of ["labels", "annotations"]) {
-    if (isRecord(metadata[key])) given.push(...Object.entries(metadata[key]).map(([name, one]) => [`${key}[${JSON.stringify(name)}]`, one]));
+    const own = isRecord(metadata[key]) ? Object.entries(metadata[key]) : [];
+    given.push(...own.map(([name, one]) => ({ path: [key, name], name: `${key}[${JSON.stringify(name)}]`, one })));
   }
-  const wrong = given.find(([, one]) => one !== undefined && one !== null && typeof one !== "string");
+  const wrong = given.find(({ one }) => one !== undefined && one !== null && typeof one !== "string");
   if (!wrong) return;
-  const advice = typeof wrong[1] === "object" ? "" : "; write it in quotes";
-  throw new NoReview(`metadata.${wrong[0]} is ${writeJson(wrong[1])}, which is not a text${advice}`);
+  const advice = typeof wrong.one === "object" ? "" : "; write it in quotes";
+  throw new NoReview(`metadata.${wrong.name} is ${writeJson(wrong.one)}, which is not a text${advice}`, thing, ["metadata", ...wrong.path]);
 }
 
 /** An object in its namespace with the values that are stored.
  * @param {any} thing @param {Resource} resource @param {Asked} asked */
 function put(thing, resource, asked) {
-  if (!isRecord(thing.metadata)) throw new NoReview("the object has no metadata");
-  refuseNoTexts(thing.metadata);
+  if (!isRecord(thing.metadata)) throw new NoReview("the object has no metadata", thing);
+  refuseNoTexts(thing);
   const { namespace, ...others } = thing.metadata;
   const metadata = resource.namespaced ? { ...others, namespace: namespace || asked.namespace || "default" } : others;
   const made = objectSent({ ...thing, metadata });
@@ -110,13 +119,27 @@ function put(thing, resource, asked) {
   return made;
 }
 
-/** The paths of the numbers that no review may have.
- * @param {any} value @param {string} path @returns {string[]} */
-function undecided(value, path) {
-  if (Array.isArray(value)) return value.flatMap((one, place) => undecided(one, `${path}[${place}]`));
-  if (isRecord(value)) return Object.keys(value).flatMap((key) => undecided(value[key], path ? `${path}.${key}` : key));
-  if (typeof value === "number" || (typeof value === "bigint" && (value < LEAST || value > MOST))) return [`${path} is ${value}`];
-  return [];
+/** The numbers of a value that no document may have, with their paths.
+ * @param {any} value @param {(string | number)[]} [path] @returns {{ path: (string | number)[], value: number | bigint }[]} */
+export function undecided(value, path = []) {
+  if (Array.isArray(value)) return value.flatMap((one, place) => undecided(one, [...path, place]));
+  if (isRecord(value)) return Object.keys(value).flatMap((key) => undecided(value[key], [...path, key]));
+  return typeof value === "number" || (typeof value === "bigint" && (value < LEAST || value > MOST)) ? [{ path, value }] : [];
+}
+
+/** What is said of such numbers.
+ * @param {{ path: (string | number)[], value: number | bigint }[]} wrong @param {string} [before] what is before the paths */
+export function numberWords(wrong, before = "") {
+  const more = wrong.length > MOST_NUMBERS ? ` and ${wrong.length - MOST_NUMBERS} more` : "";
+  const told = wrong.slice(0, MOST_NUMBERS).map(({ path, value }) => `${before}${pathText(path)} is ${value}`);
+  return `${told.join(", ")}${more}: policies read 64-bit ints alone`;
+}
+
+/** Refuses an object with such numbers.
+ * @param {any} value @param {any} thing of which the value is made @param {string} before */
+function refuseNumbers(value, thing, before) {
+  const wrong = undecided(value);
+  if (wrong.length) throw new NoReview(numberWords(wrong, before), thing, wrong[0].path);
 }
 
 /** The groups that an API server gives a user.
@@ -147,22 +170,25 @@ function requestOf(object, old, resource, asked) {
  * @param {any} value */
 export const isReview = (value) => isRecord(value) && value.kind === "AdmissionReview";
 
+/** Whether an object may be another as it was before: it has the same kind and name.
+ * @param {any} thing @param {any} other */
+export function isBefore(thing, other) {
+  return isRecord(other) && other.kind === thing?.kind && other.apiVersion === thing?.apiVersion && other.metadata?.name === thing?.metadata?.name;
+}
+
 /**
- * The review of the first of these objects. The second of its kind is the object before, if it is updated or deleted; any
- * may define the first's kind.
+ * The review of the first of these objects. The second of its kind and name is the object before, if it is updated or
+ * deleted; any may define the first's kind.
  * @param {any[]} things @param {Asked} asked
  */
 export function reviewOf(things, asked) {
   const [thing, ...beside] = things;
-  if (!isRecord(thing)) throw new NoReview("it is neither an AdmissionReview nor an object");
+  if (!isRecord(thing)) throw new NoReview("it is neither an AdmissionReview nor an object", thing);
   const resource = resourceOf(thing, beside), object = put(thing, resource, asked);
-  const before = beside.find((one) => isRecord(one) && one.kind === thing.kind && one.apiVersion === thing.apiVersion);
+  const before = beside.find((one) => isBefore(thing, one));
   const old = before ? put(before, resource, asked) : object;
   const request = requestOf(object, old, resource, asked);
-  const wrong = [...undecided(request.object, ""), ...(request.oldObject === request.object ? [] : undecided(request.oldObject, "oldObject"))];
-  if (wrong.length) {
-    const more = wrong.length > MOST_NUMBERS ? ` and ${wrong.length - MOST_NUMBERS} more` : "";
-    throw new NoReview(`${wrong.slice(0, MOST_NUMBERS).join(", ")}${more}: policies read 64-bit ints alone`);
-  }
+  refuseNumbers(request.object, thing, "");
+  if (request.oldObject !== request.object) refuseNumbers(request.oldObject, before ?? thing, "oldObject.");
   return { apiVersion: "admission.k8s.io/v1", kind: "AdmissionReview", request };
 }

@@ -12,6 +12,8 @@ export const ERROR_REFERENCE = 0n, FALSE_REFERENCE = 2n, TRUE_REFERENCE = 3n;
 /** @type {Record<string, bigint>} */
 const ENDING = { all: FALSE_REFERENCE, exists: TRUE_REFERENCE };
 
+const DIVIDING = ["/", "%"];
+
 /**
  * A node that was evaluated up to a step, with what was evaluated for it. A macro has its range in `parts`, and in `turns` an
  * evaluation for each item that it looked at, whose span is that of the loop's head.
@@ -139,6 +141,8 @@ export function whyError(one, values) {
   if (type === "operation" && word === "[]") {
     return `${text} ${shown === "list" || shown === "map" ? "has no such item" : `is ${article(shown)}`}`;
   }
+  const divisor = type === "operation" && DIVIDING.includes(word) ? one.part(parts[1]) : undefined;
+  if (divisor && values.get(divisor.reference) === "0" && shown === "int") return "it divides by zero";
   return "its operands do not fit, or the result is too large";
 }
 

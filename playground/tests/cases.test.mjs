@@ -117,6 +117,71 @@ for (const [name, review, words] of NO_REVIEWS) {
   });
 }
 
+const POLICY = `${HEAD}  validations: [{expression: "true"}]\n`;
+const DEPLOYMENT = "apiVersion: apps/v1\nkind: Deployment\nmetadata: {name: web}\n";
+const OTHERS = [
+  ["two policies", { policy: `${POLICY}---\n${POLICY}`, review: DEPLOYMENT }, "policy", 7, /one policy is decided at a time, and ValidatingAdmissionPolicy x is another one/],
+  ["two objects", { policy: POLICY, review: `${DEPLOYMENT}---\n# c\n${DEPLOYMENT.replace("web", "b")}` }, "review", 6, /and Deployment b is another one/],
+  ["an object before, as one is created", { policy: POLICY, review: `${DEPLOYMENT}---\n${DEPLOYMENT}` }, "review", 5, /only for UPDATE and DELETE/],
+  ["another name, as one is updated", { policy: POLICY, operation: "UPDATE", review: `${DEPLOYMENT}---\n${DEPLOYMENT.replace("web", "b")}` }, "review", 5, /of the same name/],
+  ["a list of two", { policy: POLICY, review: "kind: List\nitems:\n- {apiVersion: apps/v1, kind: Deployment, metadata: {name: a}}\n- {apiVersion: apps/v1, kind: Deployment, metadata: {name: b}}\n" }, "review", 4, /and Deployment b is another/],
+  ["two reviews", { policy: POLICY, review: `${reviewed({})}\n`.replace(/^/, "---\n").concat("---\n", reviewed({})) }, "review", 4, /one review is decided at a time/],
+  ["two namespaces", { policy: POLICY, review: DEPLOYMENT, namespace: "kind: Namespace\n---\nkind: Namespace\n" }, "namespace", 3, /one document belongs here/],
+];
+for (const [name, given, field, line, words] of OTHERS) {
+  test(`what is beside the one that is decided is refused: ${name}`, ASKING, () => {
+    const { outcome, troubles } = explaining(given).decision();
+    assert.deepEqual([outcome, troubles.map((one) => [one.field, one.line])], ["unread", [[field, line]]]);
+    assert.match(troubles[0].words, words);
+  });
+}
+
+test("what is beside a policy is named, and places are those of the policy", ASKING, () => {
+  const binding = "kind: ValidatingAdmissionPolicyBinding\nmetadata: {name: b}\n", policy = `${HEAD}  validations: [{expression: "objct"}]\n`;
+  const case_ = explaining({ policy: `${binding}---\n${policy}---\n${binding}`, review: DEPLOYMENT });
+  assert.deepEqual([case_.decision().notices, case_.refusals().map((one) => one.line)], [
+    [1, 10].map((line) => `Left out: ValidatingAdmissionPolicyBinding b in line ${line} of the policy. Only the policy is decided.`), [8],
+  ]);
+});
+
+const PLACED = [
+  ["a fraction", { review: `${DEPLOYMENT}status:\n  x: 0.5\n` }, ["review", 5, 3], /^status\.x is 0\.5/],
+  ["a label that is a number", { review: `${DEPLOYMENT.replace("}", ", labels: {a: 1}}")}` }, ["review", 3, 32], /labels\["a"\] is 1/],
+  ["a fraction of the object before", { review: `${DEPLOYMENT}---\n${DEPLOYMENT}spec:\n  x: 0.5\n`, operation: "UPDATE" }, ["review", 9, 3], /^oldObject\.spec\.x is 0\.5/],
+  ["a kind", { review: DEPLOYMENT.replace("Deployment", "Depoyment") }, ["review", 2, 1], /did you mean/],
+  ["a namespace that is a list", { review: DEPLOYMENT, namespace: "\n- a\n" }, ["namespace", 2, 1], /^it is a list, and has to be a map$/],
+  ["an annotation that is a fraction", { review: DEPLOYMENT, namespace: "metadata:\n  annotations:\n    a: 1.5\n" }, ["namespace", 3, 5], /^metadata\.annotations\.a is 1\.5/],
+  ["params with a number that is too large", { review: DEPLOYMENT, params: "{\"a\":\n 9223372036854775808}" }, ["params", 1, 2], /^a is 9223372036854775808/],
+  ["a review of another version", { review: "{\n\"kind\": \"AdmissionReview\",\n\"apiVersion\": \"admission.k8s.io/v1beta1\", \"request\": {\"uid\": \"1\"}}" }, ["review", 3, 1], /v1beta1, and has to be admission\.k8s\.io\/v1/],
+  ["a response", { review: "apiVersion: admission.k8s.io/v1\nkind: AdmissionReview\nresponse: {uid: '1', allowed: true}\n" }, ["review", 3, 1], /it is the response/],
+];
+for (const [name, given, place, words] of PLACED) {
+  test(`the field and the place of what cannot be used: ${name}`, ASKING, () => {
+    const { outcome, troubles: [one, ...others] } = explaining({ policy: POLICY, ...given }).decision();
+    assert.deepEqual([outcome, [one.field, one.line, one.column], others], ["unread", place, []]);
+    assert.match(one.words, words);
+  });
+}
+
+test("a division by zero is told", ASKING, () => {
+  const [part] = explaining({ policy: policyOf("1 / object.n == 0"), review: reviewed({ n: 0 }) }).explanation().parts;
+  assert.match(JSON.stringify(part.tree, (_, one) => (typeof one === "bigint" ? String(one) : one)), /"origin":"it divides by zero"/);
+});
+
+const NAMESPACES = [
+  ["of another name", "kind: Namespace\nmetadata: {name: dev}\n", "The field Namespace object has dev, and the namespace of the request is default."],
+  ["of another kind", "kind: Pod\nmetadata: {name: default}\n", "The field Namespace object has a Pod, and not a Namespace."],
+];
+for (const [name, namespace, words] of NAMESPACES) {
+  test(`a namespace object ${name} is told`, ASKING, () => assert.deepEqual(explaining({ policy: POLICY, review: DEPLOYMENT, namespace }).decision().notices, [words]));
+}
+
+test("an object before that is a copy is told, if it is read", ASKING, () => {
+  const policy = `${HEAD}  validations: [{expression: object == oldObject}]\n`, given = { policy, review: DEPLOYMENT, operation: "UPDATE" };
+  assert.match(explaining(given).decision().notices.join(), /^The policy reads oldObject, which is a copy of the object/);
+  assert.deepEqual(explaining({ ...given, review: `${DEPLOYMENT}---\n${DEPLOYMENT}` }).decision().notices, []);
+});
+
 test("quantities are stored as the tools store them", () => {
   const texts = ["0.5", "1", "1.5", "0.0001", "1e3", "1E3", "1e-3", "1000m", "1024Mi", "1.5Gi", "1023", "-1.5", "+5", "00012", "12345678901234567890", "1000k", "16Ei",
     "0Ki", "abc", "1x", "", "0.0015", "9223372036854775808", "1.123456789012", "1500u", "1.25Mi", "1e1000", " 1 "];
@@ -139,6 +204,7 @@ const REFUSALS = [
   ["a bracket", "  validations:\n  - expression: (object.a\n", 6, 26, "the `(` in column 1 of the text is not closed", ""],
   ["a key", "  validations:\n  - expression: 'true'\n    mesage: x\n", 7, 5, "no such key; there is `message`", ""],
   ["a part that is no bool", "  validations:\n  - expression: \"'a'\"\n", 6, 18, "a condition or validation is known to be no bool", "a comparison, such as `e == 'a'`"],
+  ["a name twice", "  variables: [{name: a, expression: '1'}, {name: a, expression: '2'}]\n  validations:\n  - expression: 'true'\n", 5, 44, "the name `a` is that of item 0 of variables too", ""],
   ["no validation", "  validations: []\n", 4, 1, "there is no validation", ""],
   ["annotations", "  auditAnnotations: [{key: a, valueExpression: \"'x'\"}]\n  validations:\n  - expression: 'true'\n", 5, 3, "audit annotations are not supported yet: leave them out, and their values are not computed", ""],
 ];
@@ -192,6 +258,6 @@ test("what a decision lacks is told", ASKING, () => {
     + "  validations: [{expression: 'request.userInfo.username == params.a || namespaceObject == null'}]\n";
   assert.deepEqual(explaining({ policy, review: MANIFEST }).decision().notices, [
     "Its matchConstraints have no rule for deployments: a cluster does not ask this policy.", "The policy has a paramKind, and there are no params, so params is null.",
-    "The policy reads request.userInfo, which the request has if you name a user.", "The policy reads namespaceObject, which is null without a namespace.",
+    "The policy reads request.userInfo, which the request has if you name a user.", "The policy reads namespaceObject, which is null: it is what the field Namespace object has.",
   ]);
 });
