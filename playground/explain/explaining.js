@@ -8,6 +8,7 @@ import { readJson } from "../texts/json.js";
 import { refusals } from "../refusals/refusing.js";
 import { meaningOf } from "../refusals/meanings.js";
 import { prepared } from "./case.js";
+import { outcomeWords } from "./outcome_words.js";
 import { Parts } from "./parts.js";
 import { ReviewTree } from "./review_tree.js";
 import { documentTroubles } from "./refused_documents.js";
@@ -96,7 +97,7 @@ export class Explaining {
     return this.shown;
   }
 
-  /** The parts and the review; `words` says why there are none. */
+  /** The parts and the review, and what is said of the outcome; `words` says why there are none. */
   explanation() {
     try {
       const shown = this.run(), { policy } = this.prepared;
@@ -104,9 +105,10 @@ export class Explaining {
       const made = new Parts(this.program, policy, shown);
       const names = parts(policy).filter((part) => part.kind === "variable").map((part) => part.name);
       const review = new ReviewTree(readsOf(shown.found, names, shown.run.values)).all(shown.run.values);
-      return { outcome: made.outcome, parts: made.all(), review, words: "" };
+      const all = made.all();
+      return { outcome: made.outcome, said: outcomeWords(made.outcome, all), parts: all, review, words: "" };
     } catch (why) {
-      if (isKnown(why)) return { outcome: "", parts: [], review: [], words: wordsOf(why) };
+      if (isKnown(why)) return { outcome: "", said: "", parts: [], review: [], words: wordsOf(why) };
       throw why;
     }
   }

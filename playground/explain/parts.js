@@ -15,9 +15,9 @@ import { readJson, writeJson } from "../texts/json.js";
 /** @typedef {import("../asking/program.js").Program} Program */
 /** @typedef {import("../trees/shown.js").Shown} Shown */
 /**
- * `value` is null if the run did not evaluate the part; `decides` whether it decides the outcome; `message` is that of a
+ * `value` is null if the run did not evaluate the part, or is not known to have, if it is `late`; `decides` whether it decides the outcome; `message` is that of a
  * denial, with where it comes from; `hint` what to change; `translation` what is compiled instead, with its tree by the run.
- * @typedef {{ id: string, kind: string, place: number, title: string, source: string, value: string | null, decides: boolean,
+ * @typedef {{ id: string, kind: string, place: number, title: string, source: string, value: string | null, late: boolean, decides: boolean,
  *   message?: { text: string, from: string }, hint?: string, tree: Shown | null, translation?: { source: string, tree: Shown | null } }} ShownPart
  */
 
@@ -91,9 +91,8 @@ export class Parts {
    * @param {Part} part @param {import("../runs/evaluations.js").Evaluation | undefined} whole */
   isTold(part, whole) {
     if (this.outcome === "denied") return part.kind === "validation" && this.denied.includes(part.place);
-    if (part.kind !== "condition") return false;
-    const value = whole ? whole.reference : -1n;
-    return this.outcome === "skipped" ? value !== 3n : this.outcome === "rejected" && value !== 2n && value !== 3n;
+    if (part.kind !== "condition" || !whole) return false;
+    return this.outcome === "skipped" ? whole.reference !== 3n : this.outcome === "rejected" && whole.reference !== 2n && whole.reference !== 3n;
   }
 
   /** @param {Part} part @returns {ShownPart} */
@@ -104,30 +103,31 @@ export class Parts {
     const isFalse = value === "false" && (part.kind === "validation" || part.kind === "condition");
     return {
       id: `${part.kind}-${part.place}`, kind: part.kind, place: part.place, title: part.title, source: part.text.replace(/^\n+|\n+$/g, ""),
-      value: value === null ? null : shortened(value, MOST_HEAD), decides, tree: trees.tree, translation: trees.translation,
+      value: value === null ? null : shortened(value, MOST_HEAD), late: trees.late, decides, tree: trees.tree, translation: trees.translation,
       message: decides && part.kind === "validation" ? denial(this.program, this.policy, part.place) : undefined,
       hint: isFalse ? changeToTrue(asked) ?? undefined : undefined,
     };
   }
 
   /** The value of a part that the run evaluated after the last step that is recorded, and its tree; null of one that it did not.
-   * @param {Part} part @param {boolean} decides @param {Asking} asked @returns {Pick<ShownPart, "value" | "tree" | "translation">} */
+   * @param {Part} part @param {boolean} decides @param {Asking} asked @returns {Pick<ShownPart, "value" | "late" | "tree" | "translation">} */
   afterCut(part, decides, asked) {
     const isCut = this.shown.run.steps > MOST_STEPS, isRun = this.outcome === "denied" || this.outcome === "admitted";
     const isEvaluated = part.kind === "message" ? this.denied.includes(part.place) : isRun;
     const tree = isCut && isEvaluated ? new AskedTree(asked, decides, null).all() : null;
-    return { value: asked.known(part.text) ?? null, tree };
+    const value = asked.known(part.text) ?? null, isLeft = ["skipped", "rejected"].includes(this.outcome) && part.kind !== "condition";
+    return { value, late: isCut && value === null && !isLeft && (part.kind !== "message" || isEvaluated), tree };
   }
 
   /** The value of a part and its tree by the run; if it is translated, that of the author's text, and the translation.
    * @param {Part} part @param {import("../runs/evaluations.js").Evaluation | undefined} whole @param {boolean} decides @param {Asking} asked
-   * @returns {Pick<ShownPart, "value" | "tree" | "translation">} */
+   * @returns {Pick<ShownPart, "value" | "late" | "tree" | "translation">} */
   trees(part, whole, decides, asked) {
     const translated = this.shown.translation.find((one) => one.kind === part.kind && one.place === part.place);
     if (!whole || !translated) return this.afterCut(part, decides, asked);
     const { values } = this.shown.run, run = new RunTree(translated, values, whole, decides), value = run.value(whole.reference);
-    if (isSame(part.text, translated.text)) return { value, tree: new RunTree(translated, values, whole, decides, part.text).all() };
+    if (isSame(part.text, translated.text)) return { value, late: false, tree: new RunTree(translated, values, whole, decides, part.text).all() };
     const tree = new AskedTree(asked, decides, whole).all();
-    return { value: asked.known(part.text) ?? value, tree, translation: { source: translated.text, tree: run.all() } };
+    return { value: asked.known(part.text) ?? value, late: false, tree, translation: { source: translated.text, tree: run.all() } };
   }
 }

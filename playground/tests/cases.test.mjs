@@ -78,7 +78,7 @@ test("a part that is evaluated after the steps of the page is asked", ASKING, ()
 test("a match condition that is false decides, and what comes after it is not evaluated", ASKING, () => {
   const policy = `${HEAD}  matchConditions: [{name: a, expression: object.n == 1}, {name: b, expression: 'true'}]\n  validations: [{expression: 'false'}]\n`;
   const { outcome, parts } = explaining({ policy, review: reviewed({ n: 2 }) }).explanation();
-  assert.deepEqual([outcome, parts.map((part) => [part.title, part.value, part.decides])], ["skipped", [["condition 0 a", "false", true], ["condition 1 b", null, true], ["validation 0", null, false]]]);
+  assert.deepEqual([outcome, parts.map((part) => [part.title, part.value, part.decides])], ["skipped", [["condition 0 a", "false", true], ["condition 1 b", null, false], ["validation 0", null, false]]]);
 });
 
 const MANIFEST = "apiVersion: apps/v1\nkind: Deployment\nmetadata: {name: web, labels: {}}\nspec:\n  replicas: 3.0\n  template: {spec: {containers: [{name: a, resources: {limits: {cpu: 0.5}}}]}}\n";
@@ -260,4 +260,33 @@ test("what a decision lacks is told", ASKING, () => {
     "Its matchConstraints have no rule for deployments: a cluster does not ask this policy.", "The policy has a paramKind, and there are no params, so params is null.",
     "The policy reads request.userInfo, which the request has if you name a user.", "The policy reads namespaceObject, which is null: it is what the field Namespace object has.",
   ]);
+});
+
+const FAULTY = [
+  ["a validation", { spec: "  validations: [{expression: object.spec.replicas <= 5}]\n" }, "denied", "Validation 0 is an error, which denies the request: in `object.spec.replicas` there is no field replicas."],
+  ["a false one beside it", { spec: "  validations: [{expression: object.n == 1}, {expression: object.m == 1}]\n" }, "denied",
+    "At least one validation denies the request. Validation 1 is an error, which denies the request: in `object.m` there is no field m."],
+  ["a variable", { spec: "  variables: [{name: v, expression: object.m}]\n  validations: [{expression: variables.v == 1}]\n" }, "denied",
+    "Validation 0 is an error, which denies the request: variable 0 v is the error: in `object.m` there is no field m."],
+  ["Ignore", { spec: "  failurePolicy: Ignore\n  validations: [{expression: object.m == 1}]\n" }, "allowed",
+    "No validation denies the request. Validation 0 is an error, which failurePolicy Ignore lets pass: in `object.m` there is no field m."],
+  ["a condition", { spec: "  matchConditions: [{name: a, expression: object.m == 1}]\n  validations: [{expression: 'true'}]\n" }, "denied",
+    "Condition 0 a is an error, so the request is rejected: in `object.m` there is no field m."],
+  ["a condition with Ignore", { spec: "  failurePolicy: Ignore\n  matchConditions: [{name: a, expression: object.m == 1}]\n  validations: [{expression: 'true'}]\n" }, "allowed",
+    "Condition 0 a is an error, and by failurePolicy Ignore the policy then does not apply: in `object.m` there is no field m."],
+  ["none", { spec: "  validations: [{expression: object.n == 1}]\n" }, "denied", "At least one validation denies the request."],
+];
+for (const [name, { spec }, outcome, words] of FAULTY) {
+  test(`an error is told beside the outcome: ${name}`, ASKING, () => {
+    const case_ = explaining({ policy: HEAD + spec, review: reviewed({ n: 2, spec: {} }) });
+    assert.deepEqual([case_.decision().outcome, case_.explanation().said], [outcome, words]);
+  });
+}
+
+test("a condition that is evaluated after the steps of the page is not told as not evaluated", ASKING, () => {
+  const policy = `${HEAD}  matchConditions: [{name: a, expression: 'object.l.all(x, x >= 0)'}, {name: b, expression: 'object.l[1] == 2'}]\n  validations: [{expression: 'true'}]\n`;
+  const { outcome, parts } = explaining({ policy, review: reviewed({ l: Array.from({ length: 3000 }, (_, place) => place) }) }).explanation();
+  assert.deepEqual([outcome, parts.map((part) => [part.title, part.value, part.late, part.decides])], ["skipped", [
+    ["condition 0 a", null, true, false], ["condition 1 b", null, true, false], ["validation 0", null, false, false],
+  ]]);
 });
