@@ -9,6 +9,8 @@ let calls = null;
 /** @type {Explaining | null} */
 let explaining = null;
 
+const ENDED = "the session was ended with its worker: decide again";
+
 /** What is asked of the worker, each with what it is given.
  * @type {Record<string, (given: any) => any>} */
 const ASKED = {
@@ -24,7 +26,7 @@ const ASKED = {
   refusals: () => explaining?.refusals(),
   explain: () => explaining?.explanation(),
   run: () => explaining?.runData(),
-  replies: (commands) => explaining?.replies(commands),
+  replies: (commands) => explaining?.replies(commands) ?? ENDED,
 };
 
 self.onmessage = ({ data: { id, name, given } }) => {

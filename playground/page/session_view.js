@@ -3,9 +3,7 @@
 
 import { byId, element, fill } from "./dom.js";
 import { Stopped } from "./calls.js";
-
-// what is beside the input
-const HELP = "s N, rs N: N steps on, back · g K: step K · c N: on to a breakpoint · b N, d N: breakpoint at slot N · r: registers · v H: value H · m A L: memory · f: calls · l: listing · w: verdict";
+import { HELP, usage } from "./commands.js";
 
 /** The commands so far with their replies. */
 export class SessionView {
@@ -42,7 +40,7 @@ export class SessionView {
       const replies = (await this.ask(commands)).split("\n"), shown = replies.slice(this.lines);
       this.commands = commands;
       this.lines = replies.length;
-      byId("replies").append(element("b", {}, `> ${lines.join("; ")}\n`), element("span", {}, `${shown.join("\n")}\n`));
+      byId("replies").append(element("b", {}, `> ${lines.join("; ")}\n`), element("span", {}, `${shown.join("\n")}\n`), usage(lines, shown) && element("em", {}, `${usage(lines, shown)}\n`));
       byId("replies").scrollTop = byId("replies").scrollHeight;
       byId("command").value = "";
     } catch (why) {

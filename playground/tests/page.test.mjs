@@ -3,6 +3,7 @@
 import assert from "node:assert/strict";
 import { test } from "node:test";
 import { bytesOf, hashOf, stateOf } from "../page/address.js";
+import { HELP, usage } from "../page/commands.js";
 import { printable } from "../page/dom.js";
 import { embedded } from "../page/keeping.js";
 
@@ -25,6 +26,13 @@ const BROKEN = ["", "#", "#case=!!", "#case=AAAA", "#other=1", "#step=3"];
 for (const hash of BROKEN) test(`an address without a state: ${hash || "empty"}`, async () => assert.equal(await stateOf(hash), null));
 
 test("bytes in base64", () => assert.deepEqual([...bytesOf("AP8Q")], [0, 255, 16]));
+
+const USAGES = [
+  ["help", ["help"], ["? what"], `commands: ${HELP}`], ["a number that is missing", ["c"], ["? what"], "write c N: on to a breakpoint, at most N steps"],
+  ["another base", ["m 0 16"], ["? what"], "write m A L: L bytes of memory from A on, as m 0x300000000 16"],
+  ["one of two", ["r", "s"], ["r0 0", "? what"], `commands: ${HELP}`], ["none", ["r"], ["r0 0"], ""], ["a number out of range", ["s 0"], ["? range"], ""],
+];
+for (const [name, lines, replies, words] of USAGES) test(`the usage after commands: ${name}`, () => assert.equal(usage(lines, replies), words));
 
 test("texts that would be markup", () => {
   const text = embedded({ "</script>": "<!-- \u2028 & \u{1F600}" });
