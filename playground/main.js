@@ -2,14 +2,14 @@
 
 import { bytesOf, hashOf, stateOf, unzipped } from "./page/address.js";
 import { Calls, Stopped, STOPPED } from "./page/calls.js";
-import { byId, fill } from "./page/dom.js";
+import { byId, fill, steady } from "./page/dom.js";
 import { Editors } from "./page/editors.js";
 import { download, pageText } from "./page/keeping.js";
 import { partsView } from "./page/parts_view.js";
 import { reviewView } from "./page/review_view.js";
 import { RunView } from "./page/run_view.js";
 import { SessionView } from "./page/session_view.js";
-import { showDecision, showJson, showOutcome, showRefusals } from "./page/verdict_view.js";
+import { hideWhy, showDecision, showDeciding, showJson, showNoDecision, showRefusals, showSaid } from "./page/verdict_view.js";
 
 // how long a change waits for the next one, in milliseconds
 const PAUSE = 250;
@@ -31,6 +31,10 @@ class Page {
     this.run = new RunView(() => this.keepAddress());
     this.session = new SessionView((commands) => this.calls.ask("replies", commands));
     this.timer = 0;
+    /** What was put into the address last.
+     * @type {string | undefined} */
+    this.hash = undefined;
+    this.isDecided = false;
     this.firstStep = 0;
     this.token = 0;
     /** What waits for the examples.
@@ -44,6 +48,9 @@ class Page {
     });
     document.addEventListener("click", (event) => this.clicked(/** @type {Element} */ (event.target)));
     window.addEventListener("hashchange", () => this.fromAddress());
+    /** Whether the address has what cannot be read; it is kept until a field changes.
+     * @type {boolean} */
+    this.isBroken = false;
   }
 
   /** What the page shows, as its address and a kept file have it. */
@@ -74,37 +81,60 @@ class Page {
    * @param {import("./page/address.js").State} state */
   give(state) {
     this.firstStep = state.step ?? 0;
+    this.isBroken = false;
     if (state.given) {
       this.editors.give(state.given);
       this.decide();
     } else this.editors.choose(state.example ?? "", state.review);
   }
 
-  /** Shows the state of the address, if it has one. */
+  /** Shows the state of the address, if it has one; of one that cannot be read no other case is shown instead. */
   async fromAddress() {
     if (location.hash === this.hash) return true;
+    if (location.hash.length < 2 || byId(location.hash.slice(1))) return false;
     const state = await stateOf(location.hash);
-    if (!state && location.hash.length > 1) this.say("The address has no case that can be read: the link may be cut.");
     if (state?.example) await this.loadExamples();
-    if (state) this.give(state);
-    return Boolean(state);
+    const isThere = Boolean(state) && (!state?.example || this.editors.has(state.example, state.review));
+    if (isThere && state) this.give(state);
+    else this.giveNothing(state ? "The page has no example of this name." : "The address has no case that can be read: the link may be cut.");
+    return true;
+  }
+
+  /** Shows empty fields, and why; the address stays.
+   * @param {string} words */
+  giveNothing(words) {
+    this.editors.give({});
+    this.decide();
+    this.isBroken = true;
+    this.hash = undefined;
+    this.say(`${words} Choose an example, or paste a policy and a review.`);
   }
 
   /** Decides after a pause, in which there may be another change. */
   changed() {
-    fill(byId("files"));
     clearTimeout(this.timer);
+    // what is still decided is of the case before
+    this.token += 1;
+    this.isBroken = false;
+    steady(() => {
+      fill(byId("files"));
+      showDeciding();
+    });
+    document.documentElement.dataset.state = "busy";
     this.timer = window.setTimeout(() => this.decide(), this.editors.shown ? 0 : PAUSE);
   }
 
   /** Goes where a button or a link leads.
    * @param {Element} target */
   clicked(target) {
-    const step = target.closest("button.go"), place = target.closest("button.place"), part = target.closest("a[data-part]");
+    const step = target.closest("button[data-step]"), place = target.closest("button.place"), part = target.closest("button[data-part]");
     const data = (/** @type {Element} */ one) => /** @type {HTMLElement} */ (one).dataset;
     if (step) this.run.jump(Number(data(step).step));
     if (place) this.editors.goTo(data(place).field ?? "", Number(data(place).line), Number(data(place).column));
-    if (part) byId(data(part).part ?? "").focus();
+    if (part) {
+      byId(data(part).part ?? "").scrollIntoView();
+      byId(data(part).part ?? "").focus({ preventScroll: true });
+    }
   }
 
   /** Decides the case, and shows the decision and why. */
@@ -112,24 +142,35 @@ class Page {
     clearTimeout(this.timer);
     const token = ++this.token, { dataset } = document.documentElement;
     this.calls.drop();
-    // what is said of the address stays beside the first decision
-    if (token > 1) fill(byId("status"));
+    steady(() => {
+      if (!this.isBroken) fill(byId("status"));
+      showDeciding();
+    });
     dataset.state = "busy";
+    this.isDecided = false;
     try {
       const begin = performance.now(), decision = await this.calls.ask("decide", this.editors.case());
       if (token !== this.token) return;
-      showDecision(decision, performance.now() - begin);
+      this.isDecided = true;
+      steady(() => this.show(decision, performance.now() - begin));
+      dataset.state = "explaining";
       dataset.decided ??= String(Math.round(performance.now()));
-      this.editors.showRequest(decision.isManifest);
-      showJson("response", decision.response);
-      showJson("made-review", decision.review);
       this.loadExamples();
       await this.explain(decision, token);
-      this.keepAddress();
+      if (token === this.token) this.keepAddress();
     } catch (why) {
       if (token === this.token) this.failed(/** @type {Error} */ (why));
     }
     if (token === this.token) dataset.state = "done";
+  }
+
+  /** Shows a decision.
+   * @param {import("./explain/explaining.js").Decision} decision @param {number} time in milliseconds */
+  show(decision, time) {
+    showDecision(decision, time);
+    this.editors.showRequest(decision.isManifest);
+    showJson("response", decision.response);
+    showJson("made-review", decision.review);
   }
 
   /** Shows why a decision is as it is.
@@ -137,14 +178,17 @@ class Page {
   async explain(decision, token) {
     const isDecided = ["allowed", "denied", "undecided"].includes(decision.outcome);
     byId("why").hidden = byId("debugger").hidden = !isDecided;
-    if (decision.outcome === "refused") showRefusals(await this.calls.ask("refusals"));
+    if (decision.outcome === "refused") {
+      const refusals = await this.calls.ask("refusals");
+      if (token === this.token) steady(() => showRefusals(refusals));
+    }
     if (!isDecided) {
       this.run.take(null, 0);
       return;
     }
-    const { outcome, parts, review, words } = await this.calls.ask("explain");
+    const { said, parts, review, words } = await this.calls.ask("explain");
     if (token !== this.token) return;
-    if (decision.outcome !== "undecided") showOutcome(outcome);
+    if (decision.outcome !== "undecided") steady(() => showSaid(said));
     fill(byId("parts"), ...partsView(parts), words);
     fill(byId("review-tree"), reviewView(review));
     this.session.begin();
@@ -157,7 +201,12 @@ class Page {
    * @param {Error} why */
   failed(why) {
     if (why instanceof Stopped && why.message !== STOPPED) return;
-    this.say(why instanceof Stopped ? "It was stopped after ten seconds, and nothing is shown of it." : `The page has a fault: ${why.message}`);
+    const words = why instanceof Stopped ? STOPPED : `the page has a fault: ${why.message}`;
+    if (!this.isDecided) showNoDecision(words);
+    else {
+      hideWhy();
+      this.say(`Why it is so is not shown: ${words}.`);
+    }
   }
 
   /** Says something of the page itself.
@@ -169,6 +218,7 @@ class Page {
   /** Puts the state into the address. */
   keepAddress() {
     clearTimeout(this.keeping);
+    if (this.isBroken) return;
     this.keeping = window.setTimeout(async () => {
       const hash = await this.hashNow();
       this.hash = hash.length <= LONGEST ? hash : "#";

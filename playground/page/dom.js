@@ -52,6 +52,21 @@ export function openable(isOpen, head, inside) {
   return made;
 }
 
+/** Changes what is above a field in which someone writes, and keeps the field at its place in the window.
+ * @param {() => void} change */
+export function steady(change) {
+  const field = document.activeElement, header = /** @type {HTMLElement} */ (document.querySelector("header"));
+  const isWriting = field !== null && byId("inputs").contains(field), before = field ? field.getBoundingClientRect().top : 0;
+  // what becomes shorter leaves its room
+  header.style.minHeight = isWriting ? `${header.offsetHeight}px` : "";
+  if (!isWriting) document.body.style.minHeight = "";
+  change();
+  if (!field || !isWriting) return;
+  const top = window.scrollY + field.getBoundingClientRect().top - before;
+  document.body.style.minHeight = `${Math.ceil(top + window.innerHeight)}px`;
+  window.scrollTo({ top, behavior: /** @type {any} */ ("instant") });
+}
+
 /** A value, with a sign for truths and the error.
  * @param {string} text */
 export function badge(text) {

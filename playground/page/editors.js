@@ -38,6 +38,12 @@ export class Editors {
     this.changed();
   }
 
+  /** Whether there is an example of this name, with this review if one is named.
+   * @param {string} name @param {string} [review] */
+  has(name, review) {
+    return Object.hasOwn(this.examples, name) && (!review || Object.hasOwn(this.examples[name].reviews, review));
+  }
+
   /** Shows an example, by default with its first review.
    * @param {string} name @param {string} [review] */
   choose(name, review) {

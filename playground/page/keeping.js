@@ -16,6 +16,8 @@ export function pageText(given) {
   const copy = /** @type {HTMLElement} */ (document.documentElement.cloneNode(true));
   for (const selector of MADE) copy.querySelectorAll(selector).forEach((one) => one.replaceChildren());
   copy.querySelectorAll("[data-made]").forEach((one) => one.remove());
+  // the page's rule allows no style of a single element, such as of a field whose size was changed
+  for (const one of [copy, ...copy.querySelectorAll("[style]")]) one.removeAttribute("style");
   for (const name of ["data-decided", "data-state"]) copy.removeAttribute(name);
   const holder = /** @type {HTMLElement} */ (copy.querySelector("#case"));
   holder.textContent = embedded(given);

@@ -6,6 +6,7 @@ import { badge, element, openable } from "./dom.js";
 /** @typedef {import("../explain/parts.js").ShownPart} ShownPart */
 
 const SILENT = () => element("span", { class: "value silent" }, "not evaluated");
+const LATE = () => element("span", { class: "value silent" }, "not known: the run is longer than the steps that the page follows");
 
 /** A button that shows a step of the run.
  * @param {number} step */
@@ -20,7 +21,8 @@ function marks(one) {
     found.push(element("span", { class: "mark origin" }, `\u25c0 the error begins here${one.origin ? `: ${one.origin}` : ""}`), " ");
   }
   if (one.variable !== undefined) {
-    found.push(element("a", { class: "go", href: `#variable-${one.variable}`, "data-part": `variable-${one.variable}` }, `variable ${one.variable}`), " ");
+    // a link would take the place of the case in the address
+    found.push(element("button", { class: "go", type: "button", "data-part": `variable-${one.variable}` }, `variable ${one.variable}`), " ");
   }
   if (one.step !== undefined) found.push(go(one.step));
   return found;
@@ -54,7 +56,7 @@ const treeOf = (shown) => shown && element("ul", { class: "tree" }, tree(shown))
 function section(part) {
   const { translation, message } = part;
   return element("section", { class: part.decides ? "part decides" : "part", id: part.id, tabindex: -1 },
-    element("h3", {}, part.title, " ", part.value === null ? SILENT() : badge(part.value), " ", part.decides && element("span", { class: "mark decides" }, "\u25c0 decides")),
+    element("h3", {}, part.title, " ", part.value !== null ? badge(part.value) : part.late ? LATE() : SILENT(), " ", part.decides && element("span", { class: "mark decides" }, "\u25c0 decides")),
     message && element("p", { class: "message" }, "message: ", element("q", {}, message.text), ` (from ${message.from})`),
     part.hint && element("p", { class: "hint" }, part.hint),
     source(part.source), treeOf(part.tree),

@@ -14,11 +14,7 @@ const WORDS = {
   refused: "The policy is refused, so nothing is decided.",
   undecided: "The policy does not decide this request.",
   unread: "Something is to be mended first.",
-  skipped: "A condition did not hold, so the policy does not apply.",
-  rejected: "A condition could not be decided, so the request is rejected.",
-  admitted: "No validation denies the request.",
 };
-const DENIES = "At least one validation denies the request.";
 /** @type {Record<string, string>} */
 const TITLES = { unread: "not decided", undecided: "not decided", refused: "refused" };
 
@@ -55,10 +51,35 @@ export function showJson(id, text) {
 }
 
 /** Says of what kind a decision is, once the run is known.
- * @param {string} outcome */
-export function showOutcome(outcome) {
-  if (outcome === "denied") fill(byId("words"), DENIES);
-  else if (outcome in WORDS && outcome !== "undecided") fill(byId("words"), WORDS[outcome]);
+ * @param {string} words */
+export function showSaid(words) {
+  if (words) fill(byId("words"), ...withCode(words));
+}
+
+/** Shows that the case is another, and is not decided yet. */
+export function showDeciding() {
+  const heading = byId("outcome");
+  fill(heading, "deciding..");
+  heading.className = "outcome busy";
+  for (const id of ["words", "message", "time"]) fill(byId(id));
+  document.title = "deciding.. - celbpf";
+}
+
+/** Shows that there is no decision, and nothing of one before.
+ * @param {string} words */
+export function showNoDecision(words) {
+  const heading = byId("outcome");
+  fill(heading, `not decided: ${words}`);
+  heading.className = "outcome undecided";
+  for (const id of ["words", "message", "time", "notices", "troubles"]) fill(byId(id));
+  for (const id of ["response", "made-review"]) showJson(id, "");
+  hideWhy();
+  document.title = "not decided - celbpf";
+}
+
+/** Hides what is said of a decision beside it. */
+export function hideWhy() {
+  for (const id of ["why", "run", "debugger"]) byId(id).hidden = true;
 }
 
 /** The text of a part with what is refused in it marked.

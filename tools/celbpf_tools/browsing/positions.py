@@ -139,8 +139,8 @@ def newest(page: Page) -> int:
 def keys_faults(page: Page) -> Iterator[str]:
     """Which keys and buttons do not go where they are to go."""
     last = page.value('Number(document.getElementById("slider").max)')
-    page.value('document.querySelector("button.go").click()')
-    wanted = page.value('Number(document.querySelector("button.go").dataset.step)')
+    page.value('document.querySelector("button[data-step]").click()')
+    wanted = page.value('Number(document.querySelector("button[data-step]").dataset.step)')
     if page.value(STEP) != wanted:
         yield "a button of a value does not show its step"
     rows = [("Home", False, 0), ("ArrowRight", False, 1), ("ArrowLeft", False, 0), ("ArrowLeft", False, 0), ("End", False, last)]

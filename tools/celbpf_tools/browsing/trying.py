@@ -88,8 +88,8 @@ def hostile_texts_faults(page: Page) -> Iterator[str]:
     """Which hostile texts give neither an answer nor a message, or spoil the next decision."""
     for what, policy_text, review_text in hostile_rows():
         shown = given(page, policy=policy_text, review=review_text)
-        told = shown["status"] or shown["troubles"] or shown["outcome"] in ("allowed", "denied")
-        if not told or "fault" in shown["status"]:
+        told = shown["troubles"] or shown["outcome"] in ("allowed", "denied") or "stopped" in shown["outcome"]
+        if not told or "fault" in shown["status"] + shown["outcome"]:
             yield f"{what}: {shown}"
         shown = given(page, policy=MENDED, review=MANIFEST)
         if shown["outcome"] != "denied" or not shown["parts"]:

@@ -28,6 +28,7 @@ from ..asking.translating import Translating, gatekeeper_of
 from ..browsing import playing
 from ..browsing.browser import Browser, Page
 from ..browsing.browser import located as browser
+from ..browsing.changing import changing_faults
 from ..browsing.hostile import POLICY, REVIEW, hostile_faults
 from ..browsing.positions import keys_faults, positions_faults
 from ..browsing.trying import hostile_texts_faults, keeping_faults, mending_faults
@@ -180,6 +181,7 @@ class Pages:
         self.take("mending", mending_faults(self.page))
         self.take("hostile", hostile_texts_faults(self.page))
         self.take("keeping", keeping_faults(self.page, self.folder))
+        self.take("changing", changing_faults(self.page, self.file))
         for example in examples():
             if example.outcome == "denied" and example.policy not in self.moved and len(self.moved) < self.given.count:
                 self.write(example)
