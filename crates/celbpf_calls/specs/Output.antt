@@ -33,6 +33,7 @@ abbrev pub WritesDecision : Result Reply RunError → ℕ → List ℕ → List 
 WritesDecision (Ok reply) status before after n = WritesReply reply.response reply.allowed status before after n
 WritesDecision (Err e) status before after n = (status ≡ run_status e) × Writes (refusal_line (run_refusal e)) before after n
 
--- the refusal of a policy in the wide language is written, as the program `gatekeeper` prints it
+-- the refusal of a policy in the wide language is written, as the program `gatekeeper` prints it but for the
+-- name of its file
 abbrev pub WritesWideRefusal : WideRefusal → ℕ → List ℕ → List ℕ → ℕ → Type 0
 WritesWideRefusal e status before after n = (status ≡ wide_status e) × Writes (wide_line e) before after n

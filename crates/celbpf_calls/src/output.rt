@@ -57,7 +57,7 @@ pub fn write_refusal(alloc: Global, refusal: Refusal, room: &mut [u8], len: &mut
 }
 
 /// Writes the line of a refusal of a policy in the wide language, as the program `gatekeeper` prints
-/// it, or that memory ran out while it was made. Returns the status.
+/// it but for the name of its file, or that memory ran out while it was made. Returns the status.
 pub fn write_wide_refusal(
     alloc: Global,
     refusal: &WideRefusal,

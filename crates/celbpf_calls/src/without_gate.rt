@@ -23,7 +23,7 @@ pub fn decide(alloc: Global, policy: &[u8], asked: Asked, room: &mut [u8], len: 
 }
 
 /// Decides a review under a policy as clusters store it. The text of a policy's refusal is the line
-/// that the program `gatekeeper` prints.
+/// that the program `gatekeeper` prints, without the name of a file.
 pub fn decide_wide(
     alloc: Global,
     policy: &[u8],
