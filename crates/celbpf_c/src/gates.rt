@@ -38,7 +38,8 @@ pub extern "C" fn celbpf_gate_new(
 }
 
 /// Compiles a policy as clusters store it, and puts its gate into the place, as `celbpf_gate_new`
-/// does. The text of a refusal is the line that the program `gatekeeper` prints.
+/// does. The text of a refusal is the line that the program `gatekeeper` prints, without the name of a
+/// file.
 #[unsafe(no_mangle)]
 pub extern "C" fn celbpf_gate_new_wide(
     alloc: Global,

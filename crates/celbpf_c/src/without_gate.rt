@@ -61,7 +61,7 @@ pub extern "C" fn celbpf_review_within(
 }
 
 /// Decides a review as `celbpf_review_within` does, under a policy as clusters store it. The text of
-/// a policy's refusal is the line that the program `gatekeeper` prints.
+/// a policy's refusal is the line that the program `gatekeeper` prints, without the name of a file.
 #[unsafe(no_mangle)]
 pub extern "C" fn celbpf_review_wide(
     alloc: Global,
