@@ -151,9 +151,27 @@ def all_in(path: Union[str, Path]) -> list[Any]:
     raise Unreadable(f"{path}: {fault}")
 
 
+def policy_in(path: Path) -> Any:
+    """The policy of a file, which may have bindings too; or else its one document."""
+    found = all_in(path)
+    policies = [one for one in found if kind_of(one) == "ValidatingAdmissionPolicy"]
+    bindings = [one for one in found if kind_of(one) == "ValidatingAdmissionPolicyBinding"]
+    if len(policies) == 1 and len(bindings) == len(found) - 1:
+        return policies[0]
+    return only(found, path)
+
+
+def kind_of(document: Any) -> Any:
+    return document.get("kind") if isinstance(document, dict) else None
+
+
 def one_in(path: Path) -> Any:
     """The one document of a file."""
-    found = all_in(path)
+    return only(all_in(path), path)
+
+
+def only(found: list[Any], path: Path) -> Any:
+    """The one document that was found in a file."""
     if len(found) != 1:
         raise Unreadable(f"{path}: {len(found)} documents, and one is expected" if found else f"{path}: no document is in it")
     return found[0]

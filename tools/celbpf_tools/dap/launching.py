@@ -11,7 +11,7 @@ from typing import Any, Optional
 from ..asking import policies
 from ..asking.program import NotAnswered, Program, located
 from ..asking.translating import Translating, gatekeeper_of
-from ..documents import Unreadable
+from ..documents import Unreadable, policy_in
 from ..entry import Stop, told
 from ..testing.answers import Asked
 from ..vapctl.refusals import words_of_refusal
@@ -152,7 +152,7 @@ def with_files(order: Order, folder: str) -> Order:
     asked = Asked(Path(folder))
     named = zip(order.documents[::2], order.documents[1::2])
     documents = [word for option, file in named for word in (option, document_of(order, asked, option, file))]
-    policy = asked.file(order.policy, Path()) if order.policy else None
+    policy = asked.file(order.policy, Path(), policy_in) if order.policy else None
     return replace(order, image=asked.files.maybe(order.image), policy=policy, documents=documents)
 
 

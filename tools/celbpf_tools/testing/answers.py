@@ -11,7 +11,7 @@ from ..asking.files import Files
 from ..asking.gatekeeper import without_file
 from ..asking.program import NotAnswered, Program
 from ..asking.translating import Translating
-from ..documents import Unreadable, json_fault, one_in
+from ..documents import Unreadable, json_fault, one_in, policy_in
 from ..manifests.sending import object_sent, with_name_label
 from ..vapctl.refusals import meaning_of
 from .cases import Case
@@ -88,14 +88,18 @@ class Asked:
             review, at = self.files.named(at / review), Path()
         return text_of_review(review, case.name, at)
 
-    def file(self, value: Any, at: Path) -> str:
-        """The file of a document: a name beside the test file, or an inline document."""
+    def file(self, value: Any, at: Path, read: Callable[[Path], Any] = one_in) -> str:
+        """The file of a document: a name beside the test file, of which `read` takes one, or an inline document."""
         if isinstance(value, str):
             path = Path(self.files.named(at / value))
             if path.suffix not in (".yaml", ".yml"):
                 return self.labelled(str(path))
-            value = one_in(path)
+            value = read(path)
         return self.of_text(compact(labelled(object_sent(value))))
+
+    def beside(self, case: Case, key: str) -> str:
+        """The file of a document that a case names. A policy may have its bindings beside it."""
+        return self.file(case.beside[key], case.file.parent, policy_in if key == "policy" else one_in)
 
     def labelled(self, name: str) -> str:
         """A file of JSON, or a copy in which each Namespace has the label of its name."""
@@ -125,7 +129,7 @@ class Asked:
         for key, word in WORDS.items():
             value = case.beside.get(key)
             if value is not None:
-                found += [word, str(value) if key == "steps" else self.file(value, case.file.parent)]
+                found += [word, str(value) if key == "steps" else self.beside(case, key)]
         return tuple(found)
 
 

@@ -112,6 +112,16 @@ class Yaml(Files):
         node = documents.yaml_package().compose("\n".join(lines), documents.loader())
         documents.refuse_repeated(node)
 
+    def test_a_policy_beside_its_bindings(self) -> None:
+        policy, binding = "kind: ValidatingAdmissionPolicy\n", "kind: ValidatingAdmissionPolicyBinding\n"
+        for text in [policy, f"{policy}---\n{binding}", f"{binding}---\n{policy}---\n{binding}"]:
+            with self.subTest(text):
+                self.assertEqual(documents.policy_in(self.file("a.yaml", text)), {"kind": "ValidatingAdmissionPolicy"})
+        self.assertEqual(documents.policy_in(self.file("a.yaml", "a: 1\n")), {"a": 1})
+        for text in [f"{policy}---\n{policy}", f"{policy}---\na: 1\n", f"{binding}---\n{binding}"]:
+            with self.subTest(text), self.assertRaisesRegex(documents.Unreadable, "2 documents, and one is expected"):
+                documents.policy_in(self.file("a.yaml", text))
+
     def test_several_documents(self) -> None:
         path = self.file("a.yaml", "a: 1\n---\nb: 2\n---\n")
         self.assertEqual(documents.all_in(path), [{"a": 1}, {"b": 2}])

@@ -66,7 +66,7 @@ def of_case(given: argparse.Namespace, folder: Path) -> argparse.Namespace:
     case = case_named(Path(given.policy), given.case)
     at, asked = case.file.parent, Asked(folder)
     review = asked.write("review.json", asked.review(case))
-    found = {key: asked.file(case.beside[key], at) for key in ("policy", "namespace", "params") if key in case.beside}
+    found = {key: asked.beside(case, key) for key in ("policy", "namespace", "params") if key in case.beside}
     policy = case.beside["policy"]
     written = text_of(at / policy) if isinstance(policy, str) else ""
     return argparse.Namespace(**{**vars(given), **found, "review": review, "tests": str(case.file), "written": written})
