@@ -37,6 +37,7 @@ mod translation_error;
 pub use laws::{
     condition_means_the_same, policy_means_the_same, rows_stand, translation_means_the_same,
 };
+pub use name_uses::uses;
 pub use scope::{Scope, Variable};
 pub use translated::{Translated, translate, translate_condition};
 pub use translation_error::TranslationError;

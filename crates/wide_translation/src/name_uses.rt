@@ -52,7 +52,7 @@ fn entries_use(name: &str, given: &[(Access, Wide, Wide)]) -> bool
 /// Whether an expression uses a name: outside of the macros in it that bind the name.
 #[cycle(uses)]
 #[tactic(auto, using(crate::proofs::WideViews::view_call, crate::proofs::WideViews::view_method, crate::proofs::WideViews::view_list, crate::proofs::WideViews::view_map), unfolding(crate::specs::Uses::uses))]
-pub(crate) fn uses(name: &str, e: &Wide) -> bool
+pub fn uses(name: &str, e: &Wide) -> bool
     ensures { result ≡ specs.uses name.now (wide.view e.now) }
 {
     match e {
