@@ -1,5 +1,6 @@
 -- Definitions of wide_indices: the list of their modules.
 pub mod Narrow
 pub mod Tables
+pub mod Known
 pub mod Law
 pub mod Rows
