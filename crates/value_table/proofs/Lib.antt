@@ -10,6 +10,8 @@ pub mod Named
 pub mod Gathered
 pub mod Growing
 pub mod Starting
+pub mod Rooted
+pub mod Widths
 pub mod Looked
 pub mod Maps
 pub mod Heads

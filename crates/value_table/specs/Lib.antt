@@ -14,6 +14,7 @@ pub mod Entries
 pub mod Growing
 pub mod Held
 pub mod Start
+pub mod Rooted
 pub mod Tokens
 pub mod Chunks
 pub mod Lending

@@ -12,6 +12,9 @@ ghost use Rattle.value_table.specs.Meaning.{reference_of};
 ghost use Rattle.value_table.specs.References.{reference_values, AreReferences};
 ghost use Rattle.value_table.specs.Start.{IsWelcome};
 
+mod rooted;
+mod width;
+
 use crate::content::Content;
 use crate::heap::Heap;
 use crate::places::{next_reference, place, place_of};
