@@ -1,0 +1,4 @@
+-- Definitions of wide_tables: the list of their modules.
+pub mod Building
+pub mod Wrapping
+pub mod Rows
