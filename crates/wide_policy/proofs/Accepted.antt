@@ -1,16 +1,14 @@
 -- The policies that follow from a policy are accepted too.
-use Rattle.std.proofs.Common.{◌≡◌, ◌||◌, ℕ, Bool, false, List, [], ◌∷◌, length, map, nat_eq, nat_lt, refl, sym, ap, ◌∙◌}
+use Rattle.std.proofs.Common.{◌≡◌, ◌||◌, Bool, List, [], ◌∷◌, length, map, nat_eq, nat_lt, refl, ap, ◌∙◌}
 use Rattle.std.proofs.lemmas.List.{length-map}
 use Rattle.std.specs.List.{list_any}
-use Rattle.wide_kinds.specs.declared.kind.Kind.{Kind}
-use Rattle.wide_translation.specs.Placed.{WideStep, kind_of}
-use Rattle.policy_glue.specs.Policy.{NamedExpression, Validation, Policy, part_limit}
+use Rattle.wide_translation.specs.Placed.{kind_of}
+use Rattle.policy_glue.specs.Policy.{Validation, Policy, part_limit}
 use Rattle.policy_glue.specs.Reading.{IsAcceptedPolicy, has_line_break}
 use Rattle.policy_glue.specs.declared.part_kind.PartKind.TheVariants as part
-use Rattle.wide_policy.proofs.Pairs.{same_length, same_any, pairs_both}
+use Rattle.wide_policy.proofs.Pairs.{same_length, same_any}
 use Rattle.wide_policy.proofs.Trees.{PartsHold, IsSomeVariable}
-use Rattle.wide_policy.specs.Carrying.{EachPair}
-use Rattle.wide_policy.specs.Taking.{TakesNamed, TakesWideValidation, TakenValidation, TakenParts, profile_named, profile_validation, source_of, profile_of}
+use Rattle.wide_policy.specs.Taking.{Visible, visible, TakesNamed, TakesWideValidation, TakenValidation, TakenParts, profile_named, profile_validation, source_of, profile_of}
 use Rattle.wide_policy.specs.declared.message_rule.MessageRule.{MessageRule}
 
 -- as many parts, with the same messages
@@ -27,21 +25,21 @@ accepted_too p q like is = record {
   messages = like.messages ∙ is.messages;
 }
 
-same_message : (r : MessageRule) (variables : List (List ℕ × Kind)) (n : Validation) (v : TakenValidation) → TakesWideValidation r variables n v
+same_message : (r : MessageRule) (seen : Visible) (n : Validation) (v : TakenValidation) → TakesWideValidation r seen n v
     → has_line_break v.source.message ≡ has_line_break n.message
-same_message r variables n v is = ap (λ (s : Validation). has_line_break s.message) is.source
+same_message r seen n v is = ap (λ (s : Validation). has_line_break s.message) is.source
 
 map_any : {A B : Type 0} (f : A → B) (g : B → Bool) (xs : List A) → list_any g (map f xs) ≡ list_any (λ x. g (f x)) xs
 map_any f g [] = refl
 map_any f g (x ∷ xs) = ap (λ b. g (f x) || b) (map_any f g xs)
 
-module _ (r : MessageRule) (p : Policy) (t : TakenParts) (holds : PartsHold r p t) (is : IsAcceptedPolicy p) where
+module _ (wrapped : Bool) (r : MessageRule) (p : Policy) (t : TakenParts) (holds : PartsHold wrapped r p t) (is : IsAcceptedPolicy p) where
   validations_long : length t.validations ≡ length p.validations
-  validations_long = same_length (TakesWideValidation r (map kind_of t.variables)) p.validations t.validations holds.validations
+  validations_long = same_length (TakesWideValidation r (visible wrapped (map kind_of t.variables))) p.validations t.validations holds.validations
 
   messages_same : list_any (λ v. has_line_break v.source.message) t.validations ≡ list_any (λ n. has_line_break n.message) p.validations
-  messages_same = same_any (TakesWideValidation r (map kind_of t.variables)) (λ n. has_line_break n.message) (λ v. has_line_break v.source.message) p.validations t.validations
-      (same_message r (map kind_of t.variables)) holds.validations
+  messages_same = same_any (TakesWideValidation r (visible wrapped (map kind_of t.variables))) (λ n. has_line_break n.message) (λ v. has_line_break v.source.message) p.validations t.validations
+      (same_message r (visible wrapped (map kind_of t.variables))) holds.validations
 
   pub source_accepted : IsAcceptedPolicy (source_of p t)
   source_accepted = accepted_too p (source_of p t) (record {
@@ -53,7 +51,7 @@ module _ (r : MessageRule) (p : Policy) (t : TakenParts) (holds : PartsHold r p 
 
   pub profile_accepted : IsAcceptedPolicy (profile_of p t)
   profile_accepted = accepted_too p (profile_of p t) (record {
-    conditions = length-map t.conditions profile_named ∙ same_length (TakesNamed part.Condition []) p.conditions t.conditions holds.conditions;
+    conditions = length-map t.conditions profile_named ∙ same_length (TakesNamed part.Condition (visible wrapped [])) p.conditions t.conditions holds.conditions;
     variables = length-map t.variables profile_named ∙ same_length IsSomeVariable p.variables t.variables holds.variables;
     validations = length-map t.validations profile_validation ∙ validations_long;
     messages = map_any profile_validation (λ n. has_line_break n.message) t.validations ∙ messages_same;

@@ -14,4 +14,7 @@ pub mod Wholes
 pub mod Messages
 pub mod NamedParts
 pub mod Once
+pub mod NeedsOnce
+pub mod Wrapping
+pub mod TablingSteps
 pub mod OnLiterals

@@ -1,10 +1,9 @@
 -- The trees of a policy whose expressions are taken.
-use Rattle.std.proofs.Common.{◌≡◌, ℕ, false, List, [], ◌∷◌, ◌++◌, length, map, Option, Some, None, option_map, Result, Ok, Err, refl, sym, ap, subst, ◌∙◌}
+use Rattle.std.proofs.Common.{◌≡◌, ℕ, Bool, List, [], ◌∷◌, ◌++◌, length, map, Option, Some, None, option_map, Result, Ok, refl, sym, ap, subst, ◌∙◌}
 use Rattle.std.proofs.lemmas.List.{map-append}
 use Rattle.cel_reader.specs.Tree.{Tree}
 use Rattle.cel_types.specs.Declarations.{Declaration}
 use Rattle.cel_writer.specs.Printed.{printed}
-use Rattle.cel_writer.specs.Writing.{IsReadBack}
 use Rattle.wide_reader.specs.Answers.{IsWide}
 use Rattle.wide_reader.specs.Laws.{HasOneWide}
 use Rattle.wide_reader.specs.Tree.{Wide}
@@ -23,70 +22,69 @@ use Rattle.wide_translation.specs.Scope.{scope_of, condition_scope}
 use Rattle.wide_policy.proofs.Values.{means_of, condition_carries, validation_carries, message_carries}
 use Rattle.wide_policy.proofs.Pairs.{pairs_right, pairs_both, same_seconds}
 use Rattle.wide_policy.specs.Carrying.{EachPair, CarriesValue, CarriesMessage, CarriesValidation, CarriesPolicy, wide_variable, profile_variable}
-use Rattle.wide_policy.specs.Reading.{IsWideVariable, IsWideMessage, IsWideValidation, IsWideTree}
-use Rattle.wide_policy.specs.Taking.{TakenExpression, IsTakenPart, IsRefusedPart, TakesNamed, TakesWideVariable, RefusesWideVariable, TakesWideCondition, RefusesWideCondition, TakenValidation, TakesWideMessage, TakesWideValidation, RefusesWideValidation, TakenParts, WidePartsEnd, expression_of, kept_text, profile_named, profile_validation, source_of, profile_of, wide_validation, wide_tree_of, validation_tree, tree_of}
+use Rattle.wide_policy.specs.Reading.{IsWideVariable, IsWideNamed, IsWideMessage, IsWideValidation, IsWideTree}
+use Rattle.wide_policy.specs.Taking.{Visible, visible, TakenExpression, IsTakenPart, IsRefusedPart, TakesNamed, TakesWideVariable, RefusesWideVariable, TakesWideCondition, RefusesWideCondition, TakenValidation, TakesWideMessage, TakesWideValidation, RefusesWideValidation, TakenParts, WidePartsEnd, expression_of, kept_text, profile_named, profile_validation, source_of, profile_of, wide_validation, wide_tree_of, validation_tree, tree_of}
 use Rattle.wide_policy.specs.Taking as taking
 use Rattle.wide_policy.specs.WideTrees.{WideVariableTree, WideValidationTree, WidePolicyTree}
 use Rattle.wide_policy.specs.declared.expression_error.WideExpressionError.{WideExpressionError}
 use Rattle.wide_policy.specs.declared.message_rule.MessageRule.{MessageRule}
-use Rattle.wide_policy.specs.declared.message_rule.MessageRule.TheVariants as rule
 use Rattle.wide_policy.specs.declared.wide_policy_error.WidePolicyError.{WidePolicyError}
 
 -- ---- what each part is
 
 -- a variable is taken with some variables in scope
 abbrev pub IsSomeVariable : NamedExpression → WideStep → Type 0
-IsSomeVariable n v = (variables : List (List ℕ × Kind)) × TakesNamed part.Variable variables n v
+IsSomeVariable n v = (seen : Visible) × TakesNamed part.Variable seen n v
 
-record VariablesHold (taken : List WideStep) (ns : List NamedExpression) (vs : List WideStep) : Type 0 where
-  translated : AreTranslated false (map kind_of taken) vs
+record VariablesHold (wrapped : Bool) (taken : List WideStep) (ns : List NamedExpression) (vs : List WideStep) : Type 0 where
+  translated : AreTranslated wrapped (map kind_of taken) vs
   pairs : EachPair IsSomeVariable ns vs
 
-variable_more : (taken : List WideStep) (n : NamedExpression) (v : WideStep) (ns : List NamedExpression) (more : List WideStep) → TakesWideVariable taken n v
-    → VariablesHold (taken ++ v ∷ []) ns more → VariablesHold taken (n ∷ ns) (v ∷ more)
-variable_more taken n v ns more is rest = record {
+variable_more : (wrapped : Bool) (taken : List WideStep) (n : NamedExpression) (v : WideStep) (ns : List NamedExpression) (more : List WideStep) → TakesWideVariable wrapped taken n v
+    → VariablesHold wrapped (taken ++ v ∷ []) ns more → VariablesHold wrapped taken (n ∷ ns) (v ∷ more)
+variable_more wrapped taken n v ns more is rest = record {
   translated = (
-    means_of part.Variable (map kind_of taken) n.expression (expression_of v) is.expression.is,
-    subst (λ (ks : List (List ℕ × Kind)). AreTranslated false ks more) (map-append kind_of taken (v ∷ [])) rest.translated,
+    means_of part.Variable (visible wrapped (map kind_of taken)) n.expression (expression_of v) is.expression.is,
+    subst (λ (ks : List (List ℕ × Kind)). AreTranslated wrapped ks more) (map-append kind_of taken (v ∷ [])) rest.translated,
   );
-  pairs = ((map kind_of taken, is), rest.pairs);
+  pairs = ((visible wrapped (map kind_of taken), is), rest.pairs);
 }
 
 -- the parts of a policy
-pub record PartsHold (r : MessageRule) (p : Policy) (t : TakenParts) : Type 0 where
-  pub translated : AreTranslated false [] t.variables
+pub record PartsHold (wrapped : Bool) (r : MessageRule) (p : Policy) (t : TakenParts) : Type 0 where
+  pub translated : AreTranslated wrapped [] t.variables
   pub variables : EachPair IsSomeVariable p.variables t.variables
-  pub conditions : EachPair (TakesNamed part.Condition []) p.conditions t.conditions
-  pub validations : EachPair (TakesWideValidation r (map kind_of t.variables)) p.validations t.validations
+  pub conditions : EachPair (TakesNamed part.Condition (visible wrapped [])) p.conditions t.conditions
+  pub validations : EachPair (TakesWideValidation r (visible wrapped (map kind_of t.variables))) p.validations t.validations
 
-parts_by : (r : MessageRule) (p : Policy) (end : Result TakenParts WidePolicyError) (t : TakenParts) → WidePartsEnd r p end → end ≡ Ok t → PartsHold r p t
-parts_by r p end t (taking.taken vs cs rs v c s) e =
+parts_by : (wrapped : Bool) (r : MessageRule) (p : Policy) (end : Result TakenParts WidePolicyError) (t : TakenParts) → WidePartsEnd wrapped r p end → end ≡ Ok t → PartsHold wrapped r p t
+parts_by wrapped r p end t (taking.taken vs cs rs v c s) e =
     let same : record { variables = vs; conditions = cs; validations = rs } ≡ t = cc in
-    let holds = all_hold TakesWideVariable RefusesWideVariable VariablesHold (λ taken. record { translated = tt; pairs = tt }) variable_more p.variables vs v in
-    subst (PartsHold r p) same (record {
+    let holds = all_hold (TakesWideVariable wrapped) (RefusesWideVariable wrapped) (VariablesHold wrapped) (λ taken. record { translated = tt; pairs = tt }) (variable_more wrapped) p.variables vs v in
+    subst (PartsHold wrapped r p) same (record {
       translated = holds.translated;
       variables = holds.pairs;
-      conditions = all_hold TakesWideCondition RefusesWideCondition (λ taken ns more. EachPair (TakesNamed part.Condition []) ns more) (λ taken. tt) (λ taken n b ns more is rest. (is, rest)) p.conditions cs c;
-      validations = all_hold (λ taken n b. TakesWideValidation r (map kind_of vs) n b) (λ taken n e. RefusesWideValidation r (map kind_of vs) (length taken) n e)
-          (λ taken ns more. EachPair (TakesWideValidation r (map kind_of vs)) ns more) (λ taken. tt) (λ taken n b ns more is rest. (is, rest)) p.validations rs s;
+      conditions = all_hold (TakesWideCondition wrapped) (RefusesWideCondition wrapped) (λ taken ns more. EachPair (TakesNamed part.Condition (visible wrapped [])) ns more) (λ taken. tt) (λ taken n b ns more is rest. (is, rest)) p.conditions cs c;
+      validations = all_hold (λ taken n b. TakesWideValidation r (visible wrapped (map kind_of vs)) n b) (λ taken n e. RefusesWideValidation r (visible wrapped (map kind_of vs)) (length taken) n e)
+          (λ taken ns more. EachPair (TakesWideValidation r (visible wrapped (map kind_of vs))) ns more) (λ taken. tt) (λ taken n b ns more is rest. (is, rest)) p.validations rs s;
     })
-parts_by r p end t other e = absurd (cc)
+parts_by wrapped r p end t other e = absurd (cc)
 
-pub parts_hold : (r : MessageRule) (p : Policy) (t : TakenParts) → WidePartsEnd r p (Ok t) → PartsHold r p t
-parts_hold r p t ends = parts_by r p (Ok t) t ends refl
+pub parts_hold : (wrapped : Bool) (r : MessageRule) (p : Policy) (t : TakenParts) → WidePartsEnd wrapped r p (Ok t) → PartsHold wrapped r p t
+parts_hold wrapped r p t ends = parts_by wrapped r p (Ok t) t ends refl
 
 -- ---- messages
 
-module _ (r : MessageRule) (variables : List (List ℕ × Kind)) where
-  carries_message : (text : Option (List ℕ)) (x : Option TakenExpression) (e : Option WideExpressionError) → TakesWideMessage r variables text x e
-      → CarriesMessage (scope_of false variables) (option_map (λ (y : TakenExpression). y.wide) x) (option_map (λ (y : TakenExpression). y.tree) x)
+module _ (r : MessageRule) (seen : Visible) where
+  carries_message : (text : Option (List ℕ)) (x : Option TakenExpression) (e : Option WideExpressionError) → TakesWideMessage r seen text x e
+      → CarriesMessage (scope_of seen.wrapped seen.variables) (option_map (λ (y : TakenExpression). y.wide) x) (option_map (λ (y : TakenExpression). y.tree) x)
   carries_message text None e h = tt
   carries_message None (Some x) None h = absurd h
   carries_message None (Some x) (Some e) h = absurd h
-  carries_message (Some text) (Some x) None h = message_carries variables text x h
+  carries_message (Some text) (Some x) None h = message_carries seen text x h
   carries_message (Some text) (Some x) (Some e) h = absurd h
 
-  wide_message : (text : Option (List ℕ)) (x : Option TakenExpression) (e : Option WideExpressionError) → TakesWideMessage r variables text x e
+  wide_message : (text : Option (List ℕ)) (x : Option TakenExpression) (e : Option WideExpressionError) → TakesWideMessage r seen text x e
       → IsWideMessage (kept_text e text) (option_map (λ (y : TakenExpression). y.wide) x)
   wide_message None None None h = tt
   wide_message None None (Some e) h = tt
@@ -102,20 +100,20 @@ module _ (r : MessageRule) (variables : List (List ℕ × Kind)) where
 wide_variable_is : (n : NamedExpression) (v : WideStep) → IsSomeVariable n v → IsWideVariable n (wide_variable v)
 wide_variable_is n v is = record { name = is.1.name; expression = is.1.expression.is.reads }
 
-wide_validation_is : (r : MessageRule) (variables : List (List ℕ × Kind)) (n : Validation) (v : TakenValidation) → TakesWideValidation r variables n v
+wide_validation_is : (r : MessageRule) (seen : Visible) (n : Validation) (v : TakenValidation) → TakesWideValidation r seen n v
     → IsWideValidation v.source (wide_validation v)
-wide_validation_is r variables n v is = record {
+wide_validation_is r seen n v is = record {
   expression = subst (λ (s : Validation). IsWide s.expression v.expression.wide) (sym is.source) is.expression.is.reads;
   message = subst (λ (s : Validation). IsWideMessage s.message_expression (option_map (λ (y : TakenExpression). y.wide) v.message)) (sym is.source)
-      (wide_message r variables n.message_expression v.message v.left_out is.message);
+      (wide_message r seen n.message_expression v.message v.left_out is.message);
 }
 
-pub wide_tree_is : (r : MessageRule) (p : Policy) (t : TakenParts) → PartsHold r p t → IsWideTree (source_of p t) (wide_tree_of t)
-wide_tree_is r p t holds = record {
+pub wide_tree_is : (wrapped : Bool) (r : MessageRule) (p : Policy) (t : TakenParts) → PartsHold wrapped r p t → IsWideTree (source_of p t) (wide_tree_of t)
+wide_tree_is wrapped r p t holds = record {
   variables = pairs_right IsSomeVariable IsWideVariable wide_variable p.variables t.variables wide_variable_is holds.variables;
-  conditions = pairs_right (TakesNamed part.Condition []) (λ (n : NamedExpression) (e : Wide). IsWide n.expression e) (λ (v : WideStep). v.wide) p.conditions t.conditions (λ n v is. is.expression.is.reads) holds.conditions;
-  validations = pairs_both (TakesWideValidation r (map kind_of t.variables)) IsWideValidation (λ (v : TakenValidation). v.source) wide_validation p.validations t.validations
-      (wide_validation_is r (map kind_of t.variables)) holds.validations;
+  conditions = pairs_right (TakesNamed part.Condition (visible wrapped [])) IsWideNamed (λ (v : WideStep). v.wide) p.conditions t.conditions (λ n v is. is.expression.is.reads) holds.conditions;
+  validations = pairs_both (TakesWideValidation r (visible wrapped (map kind_of t.variables))) IsWideValidation (λ (v : TakenValidation). v.source) wide_validation p.validations t.validations
+      (wide_validation_is r (visible wrapped (map kind_of t.variables))) holds.validations;
 }
 
 module _ (one : HasOneWide) where
@@ -143,7 +141,7 @@ module _ (one : HasOneWide) where
   pub one_wide_tree : (p : Policy) (v w : WidePolicyTree) → IsWideTree p v → IsWideTree p w → v ≡ w
   one_wide_tree p v w is also =
       let vs : v.variables ≡ w.variables = same_seconds IsWideVariable one_variable p.variables v.variables w.variables is.variables also.variables in
-      let cs : v.conditions ≡ w.conditions = same_seconds (λ (n : NamedExpression) (e : Wide). IsWide n.expression e) (λ (n : NamedExpression). one n.expression) p.conditions v.conditions w.conditions is.conditions also.conditions in
+      let cs : v.conditions ≡ w.conditions = same_seconds IsWideNamed (λ (n : NamedExpression). one n.expression) p.conditions v.conditions w.conditions is.conditions also.conditions in
       let rs : v.validations ≡ w.validations = same_seconds IsWideValidation one_validation p.validations v.validations w.validations is.validations also.validations in
       λ i. record { variables = vs i; conditions = cs i; validations = rs i }
 
@@ -168,22 +166,22 @@ record IsTree (p : Policy) (t : PolicyTree) : Type 0 where
   conditions : EachPair (λ (n : NamedExpression) (a : Tree). ReadsTree n.expression a) p.conditions t.conditions
   validations : EachPair IsTreeValidation p.validations t.validations
 
-tree_message : (r : MessageRule) (variables : List (List ℕ × Kind)) (text : Option (List ℕ)) (x : Option TakenExpression) (e : Option WideExpressionError)
-    → TakesWideMessage r variables text x e → IsTreeMessage (option_map (λ (y : TakenExpression). printed y.tree) x) (option_map (λ (y : TakenExpression). y.tree) x)
-tree_message r variables text None e h = tt
-tree_message r variables None (Some x) None h = absurd h
-tree_message r variables None (Some x) (Some e) h = absurd h
-tree_message r variables (Some text) (Some x) None h = h.written
-tree_message r variables (Some text) (Some x) (Some e) h = absurd h
+tree_message : (r : MessageRule) (seen : Visible) (text : Option (List ℕ)) (x : Option TakenExpression) (e : Option WideExpressionError)
+    → TakesWideMessage r seen text x e → IsTreeMessage (option_map (λ (y : TakenExpression). printed y.tree) x) (option_map (λ (y : TakenExpression). y.tree) x)
+tree_message r seen text None e h = tt
+tree_message r seen None (Some x) None h = absurd h
+tree_message r seen None (Some x) (Some e) h = absurd h
+tree_message r seen (Some text) (Some x) None h = h.written
+tree_message r seen (Some text) (Some x) (Some e) h = absurd h
 
-tree_is : (r : MessageRule) (p : Policy) (t : TakenParts) → PartsHold r p t → IsTree (profile_of p t) (tree_of t)
-tree_is r p t holds = record {
+tree_is : (wrapped : Bool) (r : MessageRule) (p : Policy) (t : TakenParts) → PartsHold wrapped r p t → IsTree (profile_of p t) (tree_of t)
+tree_is wrapped r p t holds = record {
   variables = pairs_both IsSomeVariable IsTreeVariable profile_named profile_variable p.variables t.variables
       (λ n v is. record { name = refl; expression = is.1.expression.written }) holds.variables;
-  conditions = pairs_both (TakesNamed part.Condition []) (λ (n : NamedExpression) (a : Tree). ReadsTree n.expression a) profile_named (λ (v : WideStep). v.tree) p.conditions t.conditions
+  conditions = pairs_both (TakesNamed part.Condition (visible wrapped [])) (λ (n : NamedExpression) (a : Tree). ReadsTree n.expression a) profile_named (λ (v : WideStep). v.tree) p.conditions t.conditions
       (λ n v is. is.expression.written) holds.conditions;
-  validations = pairs_both (TakesWideValidation r (map kind_of t.variables)) IsTreeValidation profile_validation validation_tree p.validations t.validations
-      (λ n v is. record { expression = is.expression.written; message = tree_message r (map kind_of t.variables) n.message_expression v.message v.left_out is.message }) holds.validations;
+  validations = pairs_both (TakesWideValidation r (visible wrapped (map kind_of t.variables))) IsTreeValidation profile_validation validation_tree p.validations t.validations
+      (λ n v is. record { expression = is.expression.written; message = tree_message r (visible wrapped (map kind_of t.variables)) n.message_expression v.message v.left_out is.message }) holds.validations;
 }
 
 -- ---- the trees of a policy that compiles
@@ -239,23 +237,23 @@ module _ (one : (text : List ℕ) (a b : Tree) → ReadsTree text a → ReadsTre
       λ i. record { variables = vs i; conditions = cs i; validations = rs i }
 
   -- a policy of translations that compiles has the trees of the translations
-  pub compiled_trees : (r : MessageRule) (p : Policy) (parts : TakenParts) (t : PolicyTree) → PartsHold r p parts → Compiles (profile_of p parts) (Ok t) → t ≡ tree_of parts
-  compiled_trees r p parts t holds compiles =
-      one_tree_of (profile_of p parts) t (tree_of parts) (compiled_read (profile_of p parts) (Ok t) t compiles refl) (tree_is r p parts holds)
+  pub compiled_trees : (wrapped : Bool) (r : MessageRule) (p : Policy) (parts : TakenParts) (t : PolicyTree) → PartsHold wrapped r p parts → Compiles (profile_of p parts) (Ok t) → t ≡ tree_of parts
+  compiled_trees wrapped r p parts t holds compiles =
+      one_tree_of (profile_of p parts) t (tree_of parts) (compiled_read (profile_of p parts) (Ok t) t compiles refl) (tree_is wrapped r p parts holds)
 
 -- ---- the translations carry the values
 
-pub parts_carry : (r : MessageRule) (p : Policy) (t : TakenParts) → PartsHold r p t → CarriesPolicy (wide_tree_of t) (tree_of t)
-parts_carry r p t holds = record {
+pub parts_carry : (wrapped : Bool) (r : MessageRule) (p : Policy) (t : TakenParts) → PartsHold wrapped r p t → CarriesPolicy wrapped (wide_tree_of t) (tree_of t)
+parts_carry wrapped r p t holds = record {
   steps = t.variables;
   are_translated = holds.translated;
   wide_are = refl;
   trees_are = refl;
-  conditions = pairs_both (TakesNamed part.Condition []) (CarriesValue (condition_scope false)) (λ (v : WideStep). v.wide) (λ (v : WideStep). v.tree) p.conditions t.conditions
-      (λ n v is. condition_carries [] n.expression (expression_of v) is.expression) holds.conditions;
-  validations = pairs_both (TakesWideValidation r (map kind_of t.variables)) (CarriesValidation (scope_of false (map kind_of t.variables))) wide_validation validation_tree p.validations t.validations
+  conditions = pairs_both (TakesNamed part.Condition (visible wrapped [])) (CarriesValue (condition_scope wrapped)) (λ (v : WideStep). v.wide) (λ (v : WideStep). v.tree) p.conditions t.conditions
+      (λ n v is. condition_carries (visible wrapped []) n.expression (expression_of v) is.expression) holds.conditions;
+  validations = pairs_both (TakesWideValidation r (visible wrapped (map kind_of t.variables))) (CarriesValidation (scope_of wrapped (map kind_of t.variables))) wide_validation validation_tree p.validations t.validations
       (λ n v is. record {
-        expression = validation_carries (map kind_of t.variables) n.expression v.expression is.expression;
-        message = carries_message r (map kind_of t.variables) n.message_expression v.message v.left_out is.message;
+        expression = validation_carries (visible wrapped (map kind_of t.variables)) n.expression v.expression is.expression;
+        message = carries_message r (visible wrapped (map kind_of t.variables)) n.message_expression v.message v.left_out is.message;
       }) holds.validations;
 }

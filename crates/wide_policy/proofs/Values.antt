@@ -1,5 +1,5 @@
 -- What the parts that are taken have for kinds and values.
-use Rattle.std.proofs.Common.{◌≡◌, ℕ, Bool, true, false, List, Some, None, refl, sym, ap, subst, ◌∙◌}
+use Rattle.std.proofs.Common.{◌≡◌, ℕ, Bool, true, false, List, refl, subst}
 use Rattle.std.proofs.lemmas.Bool.{false≢true}
 use Rattle.cel_reader.specs.Tree.{Tree}
 use Rattle.wide_reader.specs.Tree.{Wide}
@@ -14,16 +14,16 @@ use Rattle.wide_translation.specs.Translated.{translated}
 use Rattle.policy_glue.specs.declared.part_kind.PartKind.{PartKind}
 use Rattle.policy_glue.specs.declared.part_kind.PartKind.TheVariants as part
 use Rattle.wide_policy.specs.Carrying.{CarriesValue}
-use Rattle.wide_policy.specs.Taking.{TakenExpression, IsTranslated, fits, IsTakenPart, scope_for}
+use Rattle.wide_policy.specs.Taking.{TakenExpression, Visible, IsTranslated, fits, IsTakenPart, scope_for}
 
 -- a translation that is taken means what the expression means
 means_by : (s : WideScope) (e : Wide) (t : Translation) (k : Kind) (a : Tree) → t ≡ translated s e → IsTranslatedTo t k a → WideMeans s e k a
 means_by s e (taken c) k a is h = finished_means s e c k a is h
 means_by s e (refused f) k a is h = absurd h
 
-pub means_of : (p : PartKind) (variables : List (List ℕ × Kind)) (text : List ℕ) (x : TakenExpression) → IsTranslated p variables text x
-    → WideMeans (scope_for p variables) x.wide x.kind x.tree
-means_of p variables text x is = means_by (scope_for p variables) x.wide (translated (scope_for p variables) x.wide) x.kind x.tree refl is.translation
+pub means_of : (p : PartKind) (s : Visible) (text : List ℕ) (x : TakenExpression) → IsTranslated p s text x
+    → WideMeans (scope_for p s) x.wide x.kind x.tree
+means_of p s text x is = means_by (scope_for p s) x.wide (translated (scope_for p s) x.wide) x.kind x.tree refl is.translation
 
 -- a part other than a variable is a value
 abbrev is_result : PartKind → Bool
@@ -39,17 +39,17 @@ value_kind part.Validation (Optional j) h f = absurd (false≢true f)
 value_kind part.Message (Value j) h f = (j, refl)
 value_kind part.Message (Optional j) h f = absurd (false≢true f)
 
-carries_by : (p : PartKind) (variables : List (List ℕ × Kind)) (text : List ℕ) (x : TakenExpression) → is_result p ≡ true → IsTakenPart p variables text x
-    → CarriesValue (scope_for p variables) x.wide x.tree
-carries_by p variables text x h is =
+carries_by : (p : PartKind) (s : Visible) (text : List ℕ) (x : TakenExpression) → is_result p ≡ true → IsTakenPart p s text x
+    → CarriesValue (scope_for p s) x.wide x.tree
+carries_by p s text x h is =
     let k = value_kind p x.kind h is.fit in
-    record { kind = k.0; means = subst (λ (j : Kind). WideMeans (scope_for p variables) x.wide j x.tree) k.1 (means_of p variables text x is.is) }
+    record { kind = k.0; means = subst (λ (j : Kind). WideMeans (scope_for p s) x.wide j x.tree) k.1 (means_of p s text x is.is) }
 
-pub condition_carries : (variables : List (List ℕ × Kind)) (text : List ℕ) (x : TakenExpression) → IsTakenPart part.Condition variables text x → CarriesValue (condition_scope false) x.wide x.tree
-condition_carries variables text x is = carries_by part.Condition variables text x refl is
+pub condition_carries : (s : Visible) (text : List ℕ) (x : TakenExpression) → IsTakenPart part.Condition s text x → CarriesValue (condition_scope s.wrapped) x.wide x.tree
+condition_carries s text x is = carries_by part.Condition s text x refl is
 
-pub validation_carries : (variables : List (List ℕ × Kind)) (text : List ℕ) (x : TakenExpression) → IsTakenPart part.Validation variables text x → CarriesValue (scope_of false variables) x.wide x.tree
-validation_carries variables text x is = carries_by part.Validation variables text x refl is
+pub validation_carries : (s : Visible) (text : List ℕ) (x : TakenExpression) → IsTakenPart part.Validation s text x → CarriesValue (scope_of s.wrapped s.variables) x.wide x.tree
+validation_carries s text x is = carries_by part.Validation s text x refl is
 
-pub message_carries : (variables : List (List ℕ × Kind)) (text : List ℕ) (x : TakenExpression) → IsTakenPart part.Message variables text x → CarriesValue (scope_of false variables) x.wide x.tree
-message_carries variables text x is = carries_by part.Message variables text x refl is
+pub message_carries : (s : Visible) (text : List ℕ) (x : TakenExpression) → IsTakenPart part.Message s text x → CarriesValue (scope_of s.wrapped s.variables) x.wide x.tree
+message_carries s text x is = carries_by part.Message s text x refl is

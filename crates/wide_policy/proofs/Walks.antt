@@ -1,13 +1,12 @@
 -- Loops over the parts of a policy.
-use Rattle.std.proofs.Common.{◌≡◌, ◌+◌, ◌<◌, ◌≤◌, ℕ, List, [], ◌∷◌, ◌++◌, drop, get_or, length, length-append, map, Option, Some, None, Result, Ok, Err, refl, sym, ap, subst, arith, ◌∙◌, append_assoc}
+use Rattle.std.proofs.Common.{◌≡◌, ◌+◌, ◌<◌, ◌≤◌, ℕ, Bool, List, [], ◌∷◌, ◌++◌, drop, get_or, length, length-append, map, Option, Some, None, Result, Ok, Err, refl, sym, ap, subst, arith, ◌∙◌, append_assoc}
 use Rattle.std.proofs.Math.ListN.{drop_of_length-le}
 use Rattle.std.proofs.lemmas.List.{drop_more, map-append}
-use Rattle.wide_kinds.specs.declared.kind.Kind.{Kind}
 use Rattle.wide_translation.specs.Placed.{WideStep, kind_of}
 use Rattle.policy_glue.specs.Policy.{NamedExpression, Validation, validation_view}
 use Rattle.policy_glue.specs.declared.part_kind.PartKind.TheVariants as part
-use Rattle.wide_policy.specs.Returns.{IsAddedWide, IsListsOf, IsPairOf, HasAddedPair}
-use Rattle.wide_policy.specs.Taking.{EndsWith, over, refused, next, TakesWideVariable, RefusesWideVariable, TakesWideCondition, RefusesWideCondition, TakesNamed, TakenValidation, TakesWideValidation, RefusesWideValidation, WideVariablesEnd, WideConditionsEnd, WideValidationsEnd, profile_named, profile_validation, with_note, notes_from}
+use Rattle.wide_policy.specs.Returns.{with_variable, IsAddedWide, IsListsOf, IsPairOf, HasAddedPair}
+use Rattle.wide_policy.specs.Taking.{Visible, visible, EndsWith, over, refused, next, TakesWideVariable, RefusesWideVariable, TakesWideCondition, RefusesWideCondition, TakesNamed, TakenValidation, TakesWideValidation, RefusesWideValidation, profile_named, profile_validation, with_note, notes_from}
 use Rattle.wide_policy.specs.declared.expression_error.WideExpressionError.{WideExpressionError}
 use Rattle.wide_policy.specs.declared.left_out.LeftOut.{LeftOut}
 use Rattle.wide_policy.specs.declared.message_rule.MessageRule.{MessageRule}
@@ -46,37 +45,37 @@ one_pushed f old new x is = ap (map f) is ∙ map-append f old (x ∷ [])
 
 -- ---- variables
 
-pub record VariablesGo (all rest : List NamedExpression) (place : ℕ) (scope : List (List ℕ × Kind)) (list : List NamedExpression) : Type 0 where
+pub record VariablesGo (wrapped : Bool) (all rest : List NamedExpression) (place : ℕ) (scope : Visible) (list : List NamedExpression) : Type 0 where
   pub taken : List WideStep
-  pub walks : Walks TakesWideVariable RefusesWideVariable all rest place taken
-  pub scope_is : scope ≡ map kind_of taken
+  pub walks : Walks (TakesWideVariable wrapped) (RefusesWideVariable wrapped) all rest place taken
+  pub scope_is : scope ≡ visible wrapped (map kind_of taken)
   pub list_is : list ≡ map profile_named taken
 
-pub record ConditionsGo (all rest : List NamedExpression) (place : ℕ) (list : List NamedExpression) : Type 0 where
+pub record ConditionsGo (wrapped : Bool) (all rest : List NamedExpression) (place : ℕ) (list : List NamedExpression) : Type 0 where
   pub taken : List WideStep
-  pub walks : Walks TakesWideCondition RefusesWideCondition all rest place taken
+  pub walks : Walks (TakesWideCondition wrapped) (RefusesWideCondition wrapped) all rest place taken
   pub list_is : list ≡ map profile_named taken
 
-module _ {X : Type 0} (view : X → NamedExpression) (xs : List X) (all : List NamedExpression) (place : ℕ) where
-  pub variables_step : (x : X) (old new : List (List ℕ × Kind)) (before after : List NamedExpression) → place < length xs → x ≡ get_or xs place x
-      → VariablesGo all (map view (drop place xs)) place old before → IsAddedWide (view x) old new before after
-      → VariablesGo all (map view (drop (place + 1) xs)) (place + 1) new after
+module _ {X : Type 0} (view : X → NamedExpression) (xs : List X) (all : List NamedExpression) (place : ℕ) (wrapped : Bool) where
+  pub variables_step : (x : X) (old new : Visible) (before after : List NamedExpression) → place < length xs → x ≡ get_or xs place x
+      → VariablesGo wrapped all (map view (drop place xs)) place old before → IsAddedWide (view x) old new before after
+      → VariablesGo wrapped all (map view (drop (place + 1) xs)) (place + 1) new after
   variables_step x old new before after below is go added =
       let v : WideStep = added.variable in
       record {
         taken = go.taken ++ v ∷ [];
-        walks = walk_step TakesWideVariable RefusesWideVariable view xs all place go.taken x v below is go.walks
-            (subst (λ (s : List (List ℕ × Kind)). TakesNamed part.Variable s (view x) v) go.scope_is added.taken);
-        scope_is = added.scope ∙ ap (λ (s : List (List ℕ × Kind)). s ++ kind_of v ∷ []) go.scope_is ∙ sym (map-append kind_of go.taken (v ∷ []));
+        walks = walk_step (TakesWideVariable wrapped) (RefusesWideVariable wrapped) view xs all place go.taken x v below is go.walks
+            (subst (λ (s : Visible). TakesNamed part.Variable s (view x) v) go.scope_is added.taken);
+        scope_is = added.scope ∙ ap (λ (s : Visible). with_variable s (kind_of v)) go.scope_is ∙ ap (visible wrapped) (sym (map-append kind_of go.taken (v ∷ [])));
         list_is = added.list ∙ ap (λ (s : List NamedExpression). s ++ profile_named v ∷ []) go.list_is ∙ sym (map-append profile_named go.taken (v ∷ []));
       }
 
   pub conditions_step : (x : X) (v : WideStep) (before after : List NamedExpression) → place < length xs → x ≡ get_or xs place x
-      → ConditionsGo all (map view (drop place xs)) place before → TakesNamed part.Condition [] (view x) v → after ≡ before ++ profile_named v ∷ []
-      → ConditionsGo all (map view (drop (place + 1) xs)) (place + 1) after
+      → ConditionsGo wrapped all (map view (drop place xs)) place before → TakesNamed part.Condition (visible wrapped []) (view x) v → after ≡ before ++ profile_named v ∷ []
+      → ConditionsGo wrapped all (map view (drop (place + 1) xs)) (place + 1) after
   conditions_step x v before after below is go takes more = record {
     taken = go.taken ++ v ∷ [];
-    walks = walk_step TakesWideCondition RefusesWideCondition view xs all place go.taken x v below is go.walks takes;
+    walks = walk_step (TakesWideCondition wrapped) (RefusesWideCondition wrapped) view xs all place go.taken x v below is go.walks takes;
     list_is = more ∙ ap (λ (s : List NamedExpression). s ++ profile_named v ∷ []) go.list_is ∙ sym (map-append profile_named go.taken (v ∷ []));
   }
 
@@ -96,9 +95,9 @@ notes_more start (s ∷ rs) r =
     ∙ sym (append_assoc (with_note start s.left_out []) (notes_from (start + 1) rs) (with_note (start + length (s ∷ rs)) r.left_out []))
     ∙ ap (λ (l : List LeftOut). l ++ with_note (start + length (s ∷ rs)) r.left_out []) (sym (note_apart start s.left_out (notes_from (start + 1) rs)))
 
-pub record ValidationsGo (rule : MessageRule) (variables : List (List ℕ × Kind)) (all rest : List Validation) (place : ℕ) (lists : TakenLists) : Type 0 where
+pub record ValidationsGo (rule : MessageRule) (seen : Visible) (all rest : List Validation) (place : ℕ) (lists : TakenLists) : Type 0 where
   pub taken : List TakenValidation
-  pub walks : Walks (λ before n r. TakesWideValidation rule variables n r) (λ before n e. RefusesWideValidation rule variables (length before) n e) all rest place taken
+  pub walks : Walks (λ before n r. TakesWideValidation rule seen n r) (λ before n e. RefusesWideValidation rule seen (length before) n e) all rest place taken
   pub lists_are : IsListsOf taken lists
 
 lists_more : (rs : List TakenValidation) (r : TakenValidation) (old new : TakenLists) (place : ℕ) (pair : TakenPair) → length rs ≡ place → IsListsOf rs old → IsPairOf r pair
@@ -112,12 +111,12 @@ lists_more rs r old new place pair count are is added = record {
       ∙ ap (λ n. notes_from 0 rs ++ with_note n r.left_out []) (sym count ∙ omega arith) ∙ sym (notes_more 0 rs r);
 }
 
-module _ {X : Type 0} (view : X → Validation) (xs : List X) (all : List Validation) (place : ℕ) (rule : MessageRule) (variables : List (List ℕ × Kind)) where
+module _ {X : Type 0} (view : X → Validation) (xs : List X) (all : List Validation) (place : ℕ) (rule : MessageRule) (seen : Visible) where
   pub validations_step : (x : X) (r : TakenValidation) (pair : TakenPair) (old new : TakenLists) → place < length xs → x ≡ get_or xs place x
-      → ValidationsGo rule variables all (map view (drop place xs)) place old → TakesWideValidation rule variables (view x) r → IsPairOf r pair → HasAddedPair old new place pair
-      → ValidationsGo rule variables all (map view (drop (place + 1) xs)) (place + 1) new
+      → ValidationsGo rule seen all (map view (drop place xs)) place old → TakesWideValidation rule seen (view x) r → IsPairOf r pair → HasAddedPair old new place pair
+      → ValidationsGo rule seen all (map view (drop (place + 1) xs)) (place + 1) new
   validations_step x r pair old new below is go takes pairs added = record {
     taken = go.taken ++ r ∷ [];
-    walks = walk_step (λ before n s. TakesWideValidation rule variables n s) (λ before n e. RefusesWideValidation rule variables (length before) n e) view xs all place go.taken x r below is go.walks takes;
+    walks = walk_step (λ before n s. TakesWideValidation rule seen n s) (λ before n e. RefusesWideValidation rule seen (length before) n e) view xs all place go.taken x r below is go.walks takes;
     lists_are = lists_more go.taken r old new place pair go.walks.count go.lists_are pairs added;
   }

@@ -1,5 +1,5 @@
 -- Trees of the profile that carry the values of a policy's wide expressions.
-use Rattle.std.specs.Prelude.{◌≡◌, ℕ, false, List, [], ◌∷◌, map, Option, Some, None}
+use Rattle.std.specs.Prelude.{◌≡◌, Bool, true, List, [], ◌∷◌, map, Option, Some, None}
 use Rattle.cel_reader.specs.Tree.{Tree}
 use Rattle.cel_macros.specs.Environment.{Roots}
 use Rattle.wide_reader.specs.Tree.{Wide}
@@ -7,12 +7,14 @@ use Rattle.wide_kinds.specs.declared.kind.Kind.{TheVariants.Value}
 use Rattle.wide_kinds.specs.declared.kind.ValueKind.{ValueKind}
 use Rattle.wide_meaning.specs.Environment.{WideEnvironment}
 use Rattle.wide_meaning.specs.Outcome.{Outcome}
-use Rattle.wide_translation.specs.Placed.{WideStep, AreTranslated, kind_of}
+use Rattle.wide_indices.specs.Tables.{index_tables, table_length}
+use Rattle.wide_translation.specs.Placed.{WideStep, AreTranslated, kind_of, placed}
 use Rattle.wide_translation.specs.Results.{WideMeans}
 use Rattle.wide_translation.specs.Scope.{WideScope, scope_of, condition_scope}
 use Rattle.policy_glue.specs.Evaluation.{decision_of}
 use Rattle.policy_glue.specs.Trees.{VariableTree, ValidationTree, PolicyTree}
 use Rattle.policy_glue.specs.declared.failure_policy.FailurePolicy.{FailurePolicy}
+use Rattle.wide_policy.specs.NarrowTrees.{is_policy_tabled}
 use Rattle.wide_policy.specs.WideEvaluation.{wide_decision_of}
 use Rattle.wide_policy.specs.WideTrees.{WideVariableTree, WideValidationTree, WidePolicyTree}
 
@@ -45,17 +47,24 @@ wide_variable v = record { name = v.name; expression = v.wide }
 abbrev pub profile_variable : WideStep → VariableTree
 profile_variable v = record { name = v.name; expression = v.tree }
 
--- each expression of the second policy carries the value of the one of the first policy at its place
-pub record CarriesPolicy (w : WidePolicyTree) (t : PolicyTree) : Type 0 where
+-- each expression of the second policy carries the value of the one of the first policy at its place, on roots that are
+-- wrapped or not
+pub record CarriesPolicy (wrapped : Bool) (w : WidePolicyTree) (t : PolicyTree) : Type 0 where
   pub steps : List WideStep
-  pub are_translated : AreTranslated false [] steps
+  pub are_translated : AreTranslated wrapped [] steps
   pub wide_are : w.variables ≡ map wide_variable steps
   pub trees_are : t.variables ≡ map profile_variable steps
-  pub conditions : EachPair (CarriesValue (condition_scope false)) w.conditions t.conditions
-  pub validations : EachPair (CarriesValidation (scope_of false (map kind_of steps))) w.validations t.validations
+  pub conditions : EachPair (CarriesValue (condition_scope wrapped)) w.conditions t.conditions
+  pub validations : EachPair (CarriesValidation (scope_of wrapped (map kind_of steps))) w.validations t.validations
 
--- a policy whose expressions carry the values of another's decides as the other does, on any roots, whatever the calls
--- mean that `wide_meaning` leaves open
+-- the roots on which a policy's translation is decided: if they are wrapped, with the indices 0, 1, .. beside the
+-- parameters, as many as the documents are wide, and at least 16
+abbrev pub roots_for : Bool → Roots → Roots
+roots_for wrapped roots = placed wrapped (index_tables (table_length roots)) roots
+
+-- A policy whose expressions carry the values of another's decides as the other does, on any roots, whatever the calls
+-- mean that `wide_meaning` leaves open. If the roots are wrapped, the ranges of the other's macros have to be narrow.
 abbrev pub CarriedPolicyDecides : Type 0
-CarriedPolicyDecides = (others : Wide → WideEnvironment → Outcome) (f : FailurePolicy) (w : WidePolicyTree) (t : PolicyTree) (roots : Roots)
-    → CarriesPolicy w t → decision_of f t roots ≡ wide_decision_of others f w roots
+CarriedPolicyDecides = (others : Wide → WideEnvironment → Outcome) (wrapped : Bool) (f : FailurePolicy) (w : WidePolicyTree) (t : PolicyTree)
+    (roots : Roots) → CarriesPolicy wrapped w t → (wrapped ≡ true → is_policy_tabled w ≡ true)
+    → decision_of f t (roots_for wrapped roots) ≡ wide_decision_of others f w roots

@@ -1,5 +1,5 @@
 -- Errors of other crates as errors of this one. Out of memory stays `Memory`.
-use Rattle.std.specs.Prelude.{ℕ, List, Option, None, codes}
+use Rattle.std.specs.Prelude.{ℕ, Bool, true, false, List, Option, None, codes}
 use Rattle.cel_tokens.specs.declared.read_error.ReadError.TheVariants as read_error
 use Rattle.cel_writer.specs.declared.write_error.WriteError.{WriteError, TheVariants.Unreadable}
 use Rattle.cel_writer.specs.declared.write_error.WriteError.TheVariants as write_error
@@ -35,6 +35,11 @@ from_policy e = UnreadPolicy e
 abbrev pub in_part : PartKind → ℕ → WideExpressionError → WidePolicyError
 in_part part place expression_error.Memory = wide_error.Memory
 in_part part place e = InvalidExpression part place e
+
+-- whether an expression is refused because it needs a table of indices
+abbrev pub needs_indices : WidePolicyError → Bool
+needs_indices (InvalidExpression part place (Untranslated translation_error.NeedsIndices)) = true
+needs_indices _ = false
 
 -- ---- codes
 

@@ -5,8 +5,9 @@ use Rattle.wide_policy.specs.declared.message_rule.MessageRule.{MessageRule}
 use Rattle.wide_policy.specs.declared.policy.WidePolicy.{WidePolicy}
 use Rattle.wide_policy.specs.declared.wide_policy_error.WidePolicyError.{WidePolicyError, TheVariants.Memory}
 
--- the same texts of the author, and the same translations
+-- the same texts of the author, and the same translations, for roots that are wrapped or not
 pub record HasSameTexts (p q : WidePolicy) : Type 0 where
+  pub wrapped : p.wrapped ≡ q.wrapped
   pub source : p.source ≡ q.source
   pub profile : p.profile ≡ q.profile
 
@@ -23,7 +24,7 @@ WidePoliciesAreTaken = (rule : MessageRule) (document : List ℕ) (p : WidePolic
 -- a policy in a document decides as its wide expressions mean
 pub record DecidesByTexts (p : WidePolicy) : Type 0 where
   pub wide : HasWideTree p.source
-  pub decides : DecidesAsWide p.source p.profile
+  pub decides : DecidesAsWide p.wrapped p.source p.profile
 
 abbrev pub WidePoliciesDecide : Type 0
 WidePoliciesDecide = (rule : MessageRule) (document : List ℕ) (p : WidePolicy) → IsWidePolicy rule document p → DecidesByTexts p

@@ -2,6 +2,7 @@
 pub mod WideTrees
 pub mod Depth
 pub mod WideEvaluation
+pub mod NarrowTrees
 pub mod Carrying
 pub mod WideDocuments
 pub mod Rows

@@ -17,12 +17,12 @@ use Rattle.wide_translation.specs.Scope.{WideScope, scope_of, condition_scope}
 use Rattle.wide_translation.specs.Translated.{translated}
 use Rattle.wide_translation.specs.declared.translation_error.TranslationError.{TranslationError}
 use Rattle.policy_glue.specs.Policy.{NamedExpression, Validation, Policy}
-use Rattle.policy_glue.specs.Trees.{VariableTree, ValidationTree, PolicyTree}
+use Rattle.policy_glue.specs.Trees.{ValidationTree, PolicyTree}
 use Rattle.policy_glue.specs.declared.part_kind.PartKind.{PartKind, TheVariants.Variable, TheVariants.Condition, TheVariants.Message}
 use Rattle.policy_glue.specs.declared.part_kind.PartKind.TheVariants as part
 use Rattle.wide_policy.specs.Carrying.{wide_variable, profile_variable}
 use Rattle.wide_policy.specs.Depth.{is_too_deep}
-use Rattle.wide_policy.specs.WideTrees.{WideVariableTree, WideValidationTree, WidePolicyTree}
+use Rattle.wide_policy.specs.WideTrees.{WideValidationTree, WidePolicyTree}
 use Rattle.wide_policy.specs.declared.left_out.LeftOut.{LeftOut}
 use Rattle.wide_policy.specs.declared.message_rule.MessageRule.{MessageRule, TheVariants.Required, TheVariants.LeftOut as MayBeLeftOut}
 use Rattle.wide_policy.specs.declared.expression_error.WideExpressionError.{WideExpressionError, TheVariants.Unread, TheVariants.TooDeep, TheVariants.Untranslated, TheVariants.OptionalResult, TheVariants.Unwritten, TheVariants.Memory}
@@ -36,16 +36,25 @@ pub record TakenExpression : Type 0 where
   pub kind : Kind
   pub tree : Tree
 
--- the scope of a part's expression, which may use these variables; that of a match condition has none
-abbrev pub scope_for : PartKind → List (List ℕ × Kind) → WideScope
-scope_for Condition variables = condition_scope false
-scope_for p variables = scope_of false variables
+-- what an expression may use: these variables, and the root `params`, which has tables beside the parameters if it is
+-- wrapped
+pub record Visible : Type 0 where
+  pub wrapped : Bool
+  pub variables : List (List ℕ × Kind)
 
--- the text is this expression, which is not too deep, and this is its translation, as a part that may use these variables
-pub record IsTranslated (p : PartKind) (variables : List (List ℕ × Kind)) (text : List ℕ) (x : TakenExpression) : Type 0 where
+abbrev pub visible : Bool → List (List ℕ × Kind) → Visible
+visible wrapped variables = record { wrapped = wrapped; variables = variables }
+
+-- the scope of a part's expression; that of a match condition has no variables
+abbrev pub scope_for : PartKind → Visible → WideScope
+scope_for Condition s = condition_scope s.wrapped
+scope_for p s = scope_of s.wrapped s.variables
+
+-- the text is this expression, which is not too deep, and this is its translation, as a part that may use this
+pub record IsTranslated (p : PartKind) (s : Visible) (text : List ℕ) (x : TakenExpression) : Type 0 where
   pub reads : IsWide text x.wide
   pub shallow : is_too_deep x.wide ≡ false
-  pub translation : IsTranslatedTo (translated (scope_for p variables) x.wide) x.kind x.tree
+  pub translation : IsTranslatedTo (translated (scope_for p s) x.wide) x.kind x.tree
 
 -- whether the expression of this part may be of this kind: that of a variable may be an optional value
 abbrev pub fits : PartKind → Kind → Bool
@@ -54,8 +63,8 @@ fits p (Value k) = true
 fits p (Optional k) = false
 
 -- the expression of the part is taken: its translation can be written
-pub record IsTakenPart (p : PartKind) (variables : List (List ℕ × Kind)) (text : List ℕ) (x : TakenExpression) : Type 0 where
-  pub is : IsTranslated p variables text x
+pub record IsTakenPart (p : PartKind) (s : Visible) (text : List ℕ) (x : TakenExpression) : Type 0 where
+  pub is : IsTranslated p s text x
   pub fit : fits p x.kind ≡ true
   pub written : IsReadBack x.tree
 
@@ -65,26 +74,26 @@ IsUnreadWide text (Text read_error.Memory) = ⊥
 IsUnreadWide text e = WideReadReturns text (Err e)
 
 -- the text is an expression that is not too deep, and has no translation
-abbrev pub IsUntranslated : PartKind → List (List ℕ × Kind) → List ℕ → TranslationError → Type 0
-IsUntranslated p variables text e =
+abbrev pub IsUntranslated : PartKind → Visible → List ℕ → TranslationError → Type 0
+IsUntranslated p s text e =
     (is_memory e ≡ false) × (w : Wide) × IsWide text w × (is_too_deep w ≡ false)
-    × (translated (scope_for p variables) w ≡ carried.refused (fault_of e))
+    × (translated (scope_for p s) w ≡ carried.refused (fault_of e))
 
 -- Why the expression of a part is refused. The causes exclude each other: of a text that is no expression nothing else
 -- is asked, an expression that is too deep is not translated, and so on.
-abbrev pub IsRefusedPart : PartKind → List (List ℕ × Kind) → List ℕ → WideExpressionError → Type 0
-IsRefusedPart p variables text (Unread e) = IsUnreadWide text e
-IsRefusedPart p variables text TooDeep = (w : Wide) × IsWide text w × (is_too_deep w ≡ true)
-IsRefusedPart p variables text (Untranslated e) = IsUntranslated p variables text e
-IsRefusedPart p variables text OptionalResult = (x : TakenExpression) × IsTranslated p variables text x × (fits p x.kind ≡ false)
-IsRefusedPart p variables text Unwritten =
-    (x : TakenExpression) × IsTranslated p variables text x × (fits p x.kind ≡ true) × (IsReadBack x.tree → ⊥)
-IsRefusedPart p variables text Memory = ⊥
+abbrev pub IsRefusedPart : PartKind → Visible → List ℕ → WideExpressionError → Type 0
+IsRefusedPart p s text (Unread e) = IsUnreadWide text e
+IsRefusedPart p s text TooDeep = (w : Wide) × IsWide text w × (is_too_deep w ≡ true)
+IsRefusedPart p s text (Untranslated e) = IsUntranslated p s text e
+IsRefusedPart p s text OptionalResult = (x : TakenExpression) × IsTranslated p s text x × (fits p x.kind ≡ false)
+IsRefusedPart p s text Unwritten =
+    (x : TakenExpression) × IsTranslated p s text x × (fits p x.kind ≡ true) × (IsReadBack x.tree → ⊥)
+IsRefusedPart p s text Memory = ⊥
 
 -- the part at this place is refused
-pub record RefusesPart (p : PartKind) (variables : List (List ℕ × Kind)) (place : ℕ) (text : List ℕ) (e : WidePolicyError) : Type 0 where
+pub record RefusesPart (p : PartKind) (s : Visible) (place : ℕ) (text : List ℕ) (e : WidePolicyError) : Type 0 where
   pub cause : WideExpressionError
-  pub because : IsRefusedPart p variables text cause
+  pub because : IsRefusedPart p s text cause
   pub is : e ≡ InvalidExpression p place cause
 
 -- ---- lists of parts
@@ -105,29 +114,30 @@ abbrev pub expression_of : WideStep → TakenExpression
 expression_of v = record { wide = v.wide; kind = v.kind; tree = v.tree }
 
 -- a variable or condition is taken with its name
-pub record TakesNamed (p : PartKind) (variables : List (List ℕ × Kind)) (n : NamedExpression) (v : WideStep) : Type 0 where
+pub record TakesNamed (p : PartKind) (s : Visible) (n : NamedExpression) (v : WideStep) : Type 0 where
   pub name : v.name ≡ n.name
-  pub expression : IsTakenPart p variables n.expression (expression_of v)
+  pub expression : IsTakenPart p s n.expression (expression_of v)
 
 -- a variable may use the earlier ones; its place is their number
-abbrev pub TakesWideVariable : List WideStep → NamedExpression → WideStep → Type 0
-TakesWideVariable taken n v = TakesNamed Variable (map kind_of taken) n v
+abbrev pub TakesWideVariable : Bool → List WideStep → NamedExpression → WideStep → Type 0
+TakesWideVariable wrapped taken n v = TakesNamed Variable (visible wrapped (map kind_of taken)) n v
 
-abbrev pub RefusesWideVariable : List WideStep → NamedExpression → WidePolicyError → Type 0
-RefusesWideVariable taken n e = RefusesPart Variable (map kind_of taken) (length taken) n.expression e
+abbrev pub RefusesWideVariable : Bool → List WideStep → NamedExpression → WidePolicyError → Type 0
+RefusesWideVariable wrapped taken n e =
+    RefusesPart Variable (visible wrapped (map kind_of taken)) (length taken) n.expression e
 
 -- a condition may use no variable
-abbrev pub TakesWideCondition : List WideStep → NamedExpression → WideStep → Type 0
-TakesWideCondition taken n v = TakesNamed Condition [] n v
+abbrev pub TakesWideCondition : Bool → List WideStep → NamedExpression → WideStep → Type 0
+TakesWideCondition wrapped taken n v = TakesNamed Condition (visible wrapped []) n v
 
-abbrev pub RefusesWideCondition : List WideStep → NamedExpression → WidePolicyError → Type 0
-RefusesWideCondition taken n e = RefusesPart Condition [] (length taken) n.expression e
+abbrev pub RefusesWideCondition : Bool → List WideStep → NamedExpression → WidePolicyError → Type 0
+RefusesWideCondition wrapped taken n e = RefusesPart Condition (visible wrapped []) (length taken) n.expression e
 
-abbrev pub WideVariablesEnd : List NamedExpression → Result (List WideStep) WidePolicyError → Type 0
-WideVariablesEnd ns end = EndsWith TakesWideVariable RefusesWideVariable [] ns end
+abbrev pub WideVariablesEnd : Bool → List NamedExpression → Result (List WideStep) WidePolicyError → Type 0
+WideVariablesEnd wrapped ns end = EndsWith (TakesWideVariable wrapped) (RefusesWideVariable wrapped) [] ns end
 
-abbrev pub WideConditionsEnd : List NamedExpression → Result (List WideStep) WidePolicyError → Type 0
-WideConditionsEnd ns end = EndsWith TakesWideCondition RefusesWideCondition [] ns end
+abbrev pub WideConditionsEnd : Bool → List NamedExpression → Result (List WideStep) WidePolicyError → Type 0
+WideConditionsEnd wrapped ns end = EndsWith (TakesWideCondition wrapped) (RefusesWideCondition wrapped) [] ns end
 
 -- ---- validations
 
@@ -140,12 +150,12 @@ pub record TakenValidation : Type 0 where
   pub left_out : Option WideExpressionError
 
 -- the message expression is taken, or there is none; or it is refused and left out
-abbrev pub TakesWideMessage : MessageRule → List (List ℕ × Kind) → Option (List ℕ) → Option TakenExpression
+abbrev pub TakesWideMessage : MessageRule → Visible → Option (List ℕ) → Option TakenExpression
     → Option WideExpressionError → Type 0
-TakesWideMessage rule variables None None None = Unit {0}
-TakesWideMessage rule variables (Some text) (Some x) None = IsTakenPart Message variables text x
-TakesWideMessage rule variables (Some text) None (Some e) = (rule ≡ MayBeLeftOut) × IsRefusedPart Message variables text e
-TakesWideMessage rule variables _ _ _ = ⊥
+TakesWideMessage rule s None None None = Unit {0}
+TakesWideMessage rule s (Some text) (Some x) None = IsTakenPart Message s text x
+TakesWideMessage rule s (Some text) None (Some e) = (rule ≡ MayBeLeftOut) × IsRefusedPart Message s text e
+TakesWideMessage rule s _ _ _ = ⊥
 
 -- the text of a message expression, unless it is left out
 abbrev pub kept_text : Option WideExpressionError → Option (List ℕ) → Option (List ℕ)
@@ -153,24 +163,24 @@ kept_text None text = text
 kept_text (Some e) text = None
 
 -- a validation may use all variables
-pub record TakesWideValidation (rule : MessageRule) (variables : List (List ℕ × Kind)) (n : Validation) (r : TakenValidation) : Type 0 where
+pub record TakesWideValidation (rule : MessageRule) (s : Visible) (n : Validation) (r : TakenValidation) : Type 0 where
   pub source : r.source ≡ record n { message_expression = kept_text r.left_out n.message_expression }
-  pub expression : IsTakenPart part.Validation variables n.expression r.expression
-  pub message : TakesWideMessage rule variables n.message_expression r.message r.left_out
+  pub expression : IsTakenPart part.Validation s n.expression r.expression
+  pub message : TakesWideMessage rule s n.message_expression r.message r.left_out
 
 -- the validation at this place is refused: for its expression, or else for its message expression, if that is required
-pub data RefusesWideValidation (rule : MessageRule) (variables : List (List ℕ × Kind)) (place : ℕ) (n : Validation)
+pub data RefusesWideValidation (rule : MessageRule) (s : Visible) (place : ℕ) (n : Validation)
     : WidePolicyError → Type 0 where
-  expression : (e : WidePolicyError) → RefusesPart part.Validation variables place n.expression e
-      → RefusesWideValidation rule variables place n e
+  expression : (e : WidePolicyError) → RefusesPart part.Validation s place n.expression e
+      → RefusesWideValidation rule s place n e
   message : (x : TakenExpression) (text : List ℕ) (e : WidePolicyError) → rule ≡ Required
-      → IsTakenPart part.Validation variables n.expression x
-      → n.message_expression ≡ Some text → RefusesPart Message variables place text e → RefusesWideValidation rule variables place n e
+      → IsTakenPart part.Validation s n.expression x
+      → n.message_expression ≡ Some text → RefusesPart Message s place text e → RefusesWideValidation rule s place n e
 
-abbrev pub WideValidationsEnd : MessageRule → List (List ℕ × Kind) → List Validation
+abbrev pub WideValidationsEnd : MessageRule → Visible → List Validation
     → Result (List TakenValidation) WidePolicyError → Type 0
-WideValidationsEnd rule variables ns end = EndsWith (λ taken n r. TakesWideValidation rule variables n r)
-    (λ taken n e. RefusesWideValidation rule variables (length taken) n e) [] ns end
+WideValidationsEnd rule s ns end = EndsWith (λ taken n r. TakesWideValidation rule s n r)
+    (λ taken n e. RefusesWideValidation rule s (length taken) n e) [] ns end
 
 -- ---- the policy
 
@@ -180,18 +190,18 @@ pub record TakenParts : Type 0 where
   pub conditions : List WideStep
   pub validations : List TakenValidation
 
--- the expressions of the policy are taken, or the first one is refused
-pub data WidePartsEnd (rule : MessageRule) (p : Policy) : Result TakenParts WidePolicyError → Type 0 where
-  in_variables : (e : WidePolicyError) → WideVariablesEnd p.variables (Err e) → WidePartsEnd rule p (Err e)
-  in_conditions : (vs : List WideStep) (e : WidePolicyError) → WideVariablesEnd p.variables (Ok vs)
-      → WideConditionsEnd p.conditions (Err e) → WidePartsEnd rule p (Err e)
-  in_validations : (vs cs : List WideStep) (e : WidePolicyError) → WideVariablesEnd p.variables (Ok vs)
-      → WideConditionsEnd p.conditions (Ok cs) → WideValidationsEnd rule (map kind_of vs) p.validations (Err e)
-      → WidePartsEnd rule p (Err e)
-  taken : (vs cs : List WideStep) (rs : List TakenValidation) → WideVariablesEnd p.variables (Ok vs)
-      → WideConditionsEnd p.conditions (Ok cs)
-      → WideValidationsEnd rule (map kind_of vs) p.validations (Ok rs)
-      → WidePartsEnd rule p (Ok (record { variables = vs; conditions = cs; validations = rs }))
+-- the expressions of the policy are taken, or the first one is refused; as expressions for roots that are wrapped or not
+pub data WidePartsEnd (wrapped : Bool) (rule : MessageRule) (p : Policy) : Result TakenParts WidePolicyError → Type 0 where
+  in_variables : (e : WidePolicyError) → WideVariablesEnd wrapped p.variables (Err e) → WidePartsEnd wrapped rule p (Err e)
+  in_conditions : (vs : List WideStep) (e : WidePolicyError) → WideVariablesEnd wrapped p.variables (Ok vs)
+      → WideConditionsEnd wrapped p.conditions (Err e) → WidePartsEnd wrapped rule p (Err e)
+  in_validations : (vs cs : List WideStep) (e : WidePolicyError) → WideVariablesEnd wrapped p.variables (Ok vs)
+      → WideConditionsEnd wrapped p.conditions (Ok cs) → WideValidationsEnd rule (visible wrapped (map kind_of vs)) p.validations (Err e)
+      → WidePartsEnd wrapped rule p (Err e)
+  taken : (vs cs : List WideStep) (rs : List TakenValidation) → WideVariablesEnd wrapped p.variables (Ok vs)
+      → WideConditionsEnd wrapped p.conditions (Ok cs)
+      → WideValidationsEnd rule (visible wrapped (map kind_of vs)) p.validations (Ok rs)
+      → WidePartsEnd wrapped rule p (Ok (record { variables = vs; conditions = cs; validations = rs }))
 
 -- ---- the policies that follow
 

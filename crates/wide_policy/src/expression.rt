@@ -9,25 +9,26 @@ ghost use Rattle.wide_translation.specs.Translated.{translated};
 
 use crate::depth::is_too_deep;
 use crate::expression_error::WideExpressionError;
+use crate::part_scope::PartScope;
 use crate::wide_policy_error::WidePolicyError;
 use policy_glue::PartKind;
 use std::alloc::Global;
 use wide_kinds::Kind;
 use wide_reader::Wide;
-use wide_translation::{Scope, Translated, TranslationError, translate, translate_condition};
+use wide_translation::{Translated, TranslationError, translate, translate_condition};
 
 /// The translation of a part's expression, which may use the variables of the scope unless it is a condition.
 fn translated(
     alloc: Global,
     part: PartKind,
     wide: &Wide,
-    scope: &Scope,
+    scope: &PartScope,
 ) -> Result<Translated, TranslationError>
     ensures { IsTranslation (translated (scope_for part scope.now) (view wide.now)) result }
 {
     match part {
-        PartKind::Condition => translate_condition(alloc, wide, false),
-        _ => translate(alloc, wide, scope, false),
+        PartKind::Condition => translate_condition(alloc, wide, scope.is_wrapped()),
+        _ => translate(alloc, wide, scope.variables(), scope.is_wrapped()),
     }
 }
 
@@ -36,7 +37,7 @@ fn translation(
     alloc: Global,
     part: PartKind,
     text: &str,
-    scope: &Scope,
+    scope: &PartScope,
 ) -> Result<Translated, WideExpressionError>
     ensures { ReturnsTranslation part scope.now text.now result }
 {
@@ -62,7 +63,7 @@ fn expression(
     alloc: Global,
     part: PartKind,
     text: &str,
-    scope: &Scope,
+    scope: &PartScope,
 ) -> Result<(Kind, String), WideExpressionError>
     ensures { ReturnsExpression part scope.now text.now result }
 {
@@ -80,7 +81,7 @@ pub(crate) fn part_at(
     part: PartKind,
     place: usize,
     text: &str,
-    scope: &Scope,
+    scope: &PartScope,
 ) -> Result<(Kind, String), WidePolicyError>
     ensures { ReturnsPart part place scope.now text.now result }
 {

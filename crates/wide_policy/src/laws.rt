@@ -4,6 +4,7 @@ ghost use Rattle.wide_policy.specs.Carrying.{CarriedPolicyDecides};
 ghost use Rattle.wide_policy.specs.Laws.{HasOneWidePolicy, WidePoliciesAreTaken, WidePoliciesDecide};
 ghost use Rattle.wide_policy.specs.Rows.{WideDocumentRowsHold};
 
+use wide_indices::{narrow_conditions_are_tabled, narrow_policies_are_tabled};
 use wide_reader::one_tree;
 use wide_translation::{condition_means_the_same, policy_means_the_same};
 
@@ -14,6 +15,8 @@ pub fn carried_policy_decides()
 {
     policy_means_the_same();
     condition_means_the_same();
+    narrow_policies_are_tabled();
+    narrow_conditions_are_tabled();
 }
 
 /// A document holds one policy, or is refused.

@@ -5,19 +5,20 @@ ghost use Rattle.policy_glue.specs.Policy.{named_view};
 ghost use Rattle.wide_policy.specs.Returns.{ReturnsCondition, ReturnsConditions, ReturnsVariable, ReturnsVariables};
 
 use crate::expression::part_at;
+use crate::part_scope::PartScope;
 use crate::wide_policy_error::WidePolicyError;
 use policy_glue::{NamedExpression, PartKind};
 use std::alloc::Global;
-use wide_translation::Scope;
 
 /// The variables with the texts of their translations, and their kinds. Each may use the earlier ones.
 pub(crate) fn variables(
     alloc: Global,
     named: &[NamedExpression],
-) -> Result<(Scope, Vec<NamedExpression>), WidePolicyError>
-    ensures { ReturnsVariables (map named_view named.now) result }
+    wrapped: bool,
+) -> Result<(PartScope, Vec<NamedExpression>), WidePolicyError>
+    ensures { ReturnsVariables wrapped (map named_view named.now) result }
 {
-    let mut scope = Scope::new(alloc);
+    let mut scope = PartScope::new(alloc, wrapped);
     let mut taken = Vec::new(alloc);
     for (place, variable) in named.iter().enumerate() {
         add_variable(alloc, variable, place, &mut scope, &mut taken)?;
@@ -30,7 +31,7 @@ fn add_variable(
     alloc: Global,
     variable: &NamedExpression,
     place: usize,
-    scope: &mut Scope,
+    scope: &mut PartScope,
     taken: &mut Vec<NamedExpression>,
 ) -> Result<(), WidePolicyError>
     ensures { ReturnsVariable (named_view variable.now) place scope.old scope.new (map named_view taken.old.items) (map named_view taken.new.items) result }
@@ -47,10 +48,11 @@ fn add_variable(
 pub(crate) fn conditions(
     alloc: Global,
     named: &[NamedExpression],
+    wrapped: bool,
 ) -> Result<Vec<NamedExpression>, WidePolicyError>
-    ensures { ReturnsConditions (map named_view named.now) result }
+    ensures { ReturnsConditions wrapped (map named_view named.now) result }
 {
-    let scope = Scope::new(alloc);
+    let scope = PartScope::new(alloc, wrapped);
     let mut taken = Vec::new(alloc);
     for (place, condition) in named.iter().enumerate() {
         let condition = condition_at(alloc, place, condition, &scope)?;
@@ -64,7 +66,7 @@ fn condition_at(
     alloc: Global,
     place: usize,
     condition: &NamedExpression,
-    scope: &Scope,
+    scope: &PartScope,
 ) -> Result<NamedExpression, WidePolicyError>
     ensures { ReturnsCondition place scope.now (named_view condition.now) result }
 {

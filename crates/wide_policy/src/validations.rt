@@ -7,19 +7,19 @@ ghost use Rattle.wide_policy.specs.Returns.{HasAddedPair, LeavesOut, ReturnsMess
 use crate::expression::part_at;
 use crate::left_out::LeftOut;
 use crate::message_rule::MessageRule;
+use crate::part_scope::PartScope;
 use crate::taken_lists::TakenLists;
 use crate::taken_message::TakenMessage;
 use crate::taken_pair::TakenPair;
 use crate::wide_policy_error::WidePolicyError;
 use policy_glue::{PartKind, Validation};
 use std::alloc::{AllocError, Global};
-use wide_translation::Scope;
 
 /// The validations, which may use the variables of the scope.
 pub(crate) fn validations(
     alloc: Global,
     validations: &[Validation],
-    scope: &Scope,
+    scope: &PartScope,
     rule: MessageRule,
 ) -> Result<TakenLists, WidePolicyError>
     ensures { ReturnsValidations rule scope.now (map validation_view validations.now) result }
@@ -62,7 +62,7 @@ fn validation_at(
     alloc: Global,
     place: usize,
     validation: &Validation,
-    scope: &Scope,
+    scope: &PartScope,
     rule: MessageRule,
 ) -> Result<TakenPair, WidePolicyError>
     ensures { ReturnsValidation rule place scope.now (validation_view validation.now) result }
@@ -107,7 +107,7 @@ fn message_at(
     alloc: Global,
     place: usize,
     text: &Option<String>,
-    scope: &Scope,
+    scope: &PartScope,
     rule: MessageRule,
 ) -> Result<TakenMessage, WidePolicyError>
     ensures { ReturnsMessage rule place scope.now (option_map string_bytes text.now) result }
@@ -127,7 +127,7 @@ fn some_message(
     alloc: Global,
     place: usize,
     text: &str,
-    scope: &Scope,
+    scope: &PartScope,
     rule: MessageRule,
 ) -> Result<TakenMessage, WidePolicyError>
     ensures { ReturnsMessage rule place scope.now (Some text.now) result }

@@ -1,13 +1,14 @@
 //! Why a document is not a policy that is translated.
 
 ghost use Rattle.std.specs.Prelude.{◌≡◌};
-ghost use Rattle.wide_policy.specs.Errors.{from_policy};
+ghost use Rattle.wide_policy.specs.Errors.{from_policy, needs_indices};
 ghost use Rattle.wide_policy.specs.declared.wide_policy_error.WidePolicyError.TheVariants.{Memory};
 
 use crate::expression_error::WideExpressionError;
 use policy_glue::{PartKind, PolicyError};
 use std::alloc::{AllocError, AllocFailed};
 use thiserror::Error;
+use wide_translation::TranslationError;
 
 /// Why a document is refused. The first refusal is reported: of the document, and then of its expressions, in order.
 #[derive(Debug, Drop, Error)]
@@ -25,6 +26,22 @@ pub enum WidePolicyError {
     /// An allocation failed.
     #[error("out of memory")]
     Memory,
+}
+
+impl WidePolicyError {
+    /// Whether the expression is refused because it needs a table of indices.
+    pub(crate) fn needs_indices(&self) -> bool
+        ensures { result ≡ needs_indices self.now }
+    {
+        matches!(
+            self,
+            WidePolicyError::InvalidExpression(
+                _,
+                _,
+                WideExpressionError::Untranslated(TranslationError::NeedsIndices)
+            )
+        )
+    }
 }
 
 impl From<PolicyError> for WidePolicyError {

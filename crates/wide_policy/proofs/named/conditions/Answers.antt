@@ -17,8 +17,8 @@ loop-place-init c = record {
 pub returns-in_err-condition : goal.returns-in_err-condition
 returns-in_err-condition c =
     let go = c.loop-place.invariant in
-    handed_on (ReturnsConditions (map named_view c.args.named.now)) c.in_err-condition.field-0.0 c.from_residual.result
-    (λ some. walk_fail TakesWideCondition RefusesWideCondition named_view c.args.named.now (map named_view c.args.named.now) c.loop-place.place go.taken _ _
+    handed_on (ReturnsConditions c.args.wrapped (map named_view c.args.named.now)) c.in_err-condition.field-0.0 c.from_residual.result
+    (λ some. walk_fail (TakesWideCondition c.args.wrapped) (RefusesWideCondition c.args.wrapped) named_view c.args.named.now (map named_view c.args.named.now) c.loop-place.place go.taken _ _
     c.loop-place-test.true c.index-named-place.is go.walks (rw (c.new-scope.ensures, ← go.walks.count) at (c.in_err-condition.ensures some)))
     c.from_residual.ensures.0 c.from_residual.ensures.1
 
@@ -26,7 +26,7 @@ pub loop-place-preserved : goal.loop-place-preserved
 loop-place-preserved c =
     let one = rw c.new-scope.ensures at c.in_ok-condition.ensures in
     let old = c.loop-place.taken.items in
-    conditions_step named_view c.args.named.now (map named_view c.args.named.now) c.loop-place.place _ one.0 _ _
+    conditions_step named_view c.args.named.now (map named_view c.args.named.now) c.loop-place.place c.args.wrapped _ one.0 _ _
     c.loop-place-test.true c.index-named-place.is c.loop-place.invariant one.1
     (one_pushed named_view old c.push.new.self.items _ c.in_ok-push.ensures.items ∙ ap (λ t. map named_view old ++ t ∷ []) one.2)
 
@@ -34,6 +34,6 @@ pub returns : goal.returns
 returns c =
     let go = c.loop-place.invariant in (
       go.taken,
-      walk_end TakesWideCondition RefusesWideCondition named_view c.args.named.now (map named_view c.args.named.now) c.loop-place.place go.taken c.loop-place-test.false go.walks,
+      walk_end (TakesWideCondition c.args.wrapped) (RefusesWideCondition c.args.wrapped) named_view c.args.named.now (map named_view c.args.named.now) c.loop-place.place go.taken c.loop-place-test.false go.walks,
       go.list_is,
     )

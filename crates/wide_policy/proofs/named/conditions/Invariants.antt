@@ -5,4 +5,4 @@ use Rattle.wide_policy.proofs.Walks.{ConditionsGo}
 use Rattle.wide_policy.proofs.named.conditions.Given as goal
 
 abbrev pub invariant-loop-place : goal.invariant-loop-place
-invariant-loop-place l = ConditionsGo (map named_view l.named) (map named_view (drop l.place l.named)) l.place (map named_view l.taken.items)
+invariant-loop-place l = ConditionsGo l.wrapped (map named_view l.named) (map named_view (drop l.place l.named)) l.place (map named_view l.taken.items)

@@ -5,4 +5,4 @@ use Rattle.wide_policy.proofs.Walks.{VariablesGo}
 use Rattle.wide_policy.proofs.named.variables.Given as goal
 
 abbrev pub invariant-loop-place : goal.invariant-loop-place
-invariant-loop-place l = VariablesGo (map named_view l.named) (map named_view (drop l.place l.named)) l.place l.scope (map named_view l.taken.items)
+invariant-loop-place l = VariablesGo l.wrapped (map named_view l.named) (map named_view (drop l.place l.named)) l.place l.scope (map named_view l.taken.items)

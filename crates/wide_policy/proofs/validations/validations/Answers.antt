@@ -1,5 +1,5 @@
 -- Proof obligations of `validations::validations`.
-use Rattle.std.proofs.Common.{[], ap, length, map, refl}
+use Rattle.std.proofs.Common.{length, map}
 use Rattle.policy_glue.specs.Policy.{validation_view}
 use Rattle.wide_policy.specs.Returns.{ReturnsValidations}
 use Rattle.wide_policy.specs.Taking.{TakesWideValidation, RefusesWideValidation}
