@@ -1,6 +1,6 @@
 -- The results of reviews, from the states of the policies' programs.
 use Rattle.std.proofs.Common.{nat_lt}
-use Rattle.admission.proofs.Prelude.{◌≡◌, ℕ, ◌+◌, ◌*◌, ◌≤◌, ◌⊎◌, Bool, true, false, ◌&&◌, List, [], ◌∷◌, ◌++◌, length, Option, Some, Result, Ok, Err, refl, sym, ap, ◌∙◌, subst, arith, inl, inr, if◌then◌else◌, cases_lt, length-map, length_push, Fault as GuestFault, F8, StartIsCanonical, Contents, Roots, StartsAreTables, State, start_state, StatesAreKept, is_running, state_after, Status, Exited, Running, HasValues, TakenOrRefused, PartsEnd, policy_work, decision_of, outcome_of, outcome_word, Compiles, Verdict, Policy, Decides, OutOfBudget, LeavesByExit, PolicyTree, Finding, decided, judged_by, verdict_of, CompileError, FailurePolicy, GatePolicy, Reply, Documents, IsAnswered, IsPolicy, decision, started, values_given, IsGateOn, Exit, Exits, HasExited, NoExit, Stopped, no_exit_error, IsExit, OfVerdict, IsDecisionOf, Decision, decision_from_verdict, Images, PolicyRun, PolicyRunEnds, RunAgrees, exactly, document_given, parts_given, uid_in, RunError, ReviewRefused, NamespaceOrParamsRefused, OutOfSteps, OverLimit, OutOfReads}
+use Rattle.admission.proofs.Prelude.{◌≡◌, ℕ, ◌+◌, ◌*◌, ◌≤◌, ◌⊎◌, Bool, true, false, ◌&&◌, List, [], ◌∷◌, ◌++◌, length, Option, Some, Result, Ok, Err, refl, sym, ap, ◌∙◌, subst, arith, inl, inr, if◌then◌else◌, cases_lt, length-map, length_push, Fault as GuestFault, F8, StartIsCanonical, Contents, charge_limit, AreOfRoots, Roots, StartsAreTables, State, start_state, StatesAreKept, is_running, state_after, Status, Exited, Running, HasValues, TakenOrRefused, PartsEnd, policy_work, decision_of, outcome_of, outcome_word, Compiles, Verdict, Policy, Decides, OutOfBudget, LeavesByExit, PolicyTree, Finding, decided, judged_by, verdict_of, CompileError, FailurePolicy, GatePolicy, Reply, Documents, IsAnswered, IsPolicy, decision, started, values_given, IsGateOn, Exit, Exits, HasExited, NoExit, Stopped, no_exit_error, IsExit, OfVerdict, IsDecisionOf, Decision, decision_from_verdict, Images, PolicyRun, PolicyRunEnds, RunAgrees, exactly, document_given, parts_given, uid_in, RunError, ReviewRefused, NamespaceOrParamsRefused, OutOfSteps, OverLimit, OutOfReads}
 use Rattle.bpf_machine.specs.declared.status.Status.TheVariants.{Fault}
 use Rattle.run_ends.specs.declared.no_exit.NoExit.TheVariants as no_exit
 use Rattle.bpf_machine.specs.Reads.{reads_to, IsLimitedStop, LimitedStopsOnce}
@@ -21,7 +21,11 @@ use Rattle.admission.specs.declared.limits.Limits.{Limits}
 use Rattle.admission.proofs.Ends.{below_limit, is_below, is_not_below, not_and, of_and}
 use Rattle.admission.proofs.RootTables.{refused_as}
 use Rattle.admission.proofs.Said.{same_form}
-use Rattle.admission.proofs.RootContents.{given_have_values}
+use Rattle.admission.proofs.RootContents.{given_have_values, given_are_started}
+use Rattle.admission.proofs.WrappedRoots.{placed_have_values, placed_fit}
+use Rattle.admission.specs.Deciding.{placed_roots}
+use Rattle.admission.specs.Starting.{gate_contents, IsFirst, IsStart, StartsGate}
+use Rattle.admission.specs.declared.run_error.RunError.TheVariants.{PolicyRefused, Memory}
 
 -- ---- the number of findings
 
@@ -66,16 +70,14 @@ pub record IsEndOf (limits : Limits) (first machine : State) (status : Status) (
   pub status_is : status ≡ machine.status
   pub held_is : held ≡ (nat_lt (steps_taken limits first) limits.steps && is_running status)
 
-pub end_of : (limits : Limits) (first start machine : State) (taken : ℕ) (status : Status) (held : Bool) → first ≡ start → taken ≡ steps_taken limits first
+pub end_of : (limits : Limits) (first machine : State) (taken : ℕ) (status : Status) (held : Bool) → taken ≡ steps_taken limits first
     → machine ≡ state_after taken first → status ≡ machine.status → held ≡ (nat_lt taken limits.steps && is_running status)
-    → IsEndOf limits start machine status held
-end_of limits first start machine taken status held begins place state_is status_is held_is =
-    let whole : taken ≡ steps_taken limits start = place ∙ ap (λ (s : State). steps_taken limits s) begins in
-    record {
-      state = state_is ∙ ap (λ (s : State). state_after taken s) begins ∙ ap (λ (k : ℕ). state_after k start) whole;
-      status_is = status_is;
-      held_is = held_is ∙ ap (λ (k : ℕ). nat_lt k limits.steps && is_running status) whole;
-    }
+    → IsEndOf limits first machine status held
+end_of limits first machine taken status held place state_is status_is held_is = record {
+  state = state_is ∙ ap (λ (k : ℕ). state_after k first) place;
+  status_is = status_is;
+  held_is = held_is ∙ ap (λ (k : ℕ). nat_lt k limits.steps && is_running status) place;
+}
 
 -- a refusal of the documents
 abbrev IsOfDocuments : RunError → Type 0
@@ -86,7 +88,7 @@ by_test b = grind arith
 
 module _ (gate : GatePolicy) (d : Documents) (of : IsGateOn d.language d.policy gate) (limits : Limits) where
   abbrev policy : IsPolicy d.language d.policy
-  policy = record { told = gate.told; parsed = gate.policy; is_said = of.0; trees = of.1.trees; compiles = of.1.compiles }
+  policy = record { told = gate.told; parsed = gate.policy; wrapped = gate.wrapped; is_said = of.0; trees = of.1.trees; compiles = of.1.compiles }
 
   -- what the program left for a review, and the run of its image
   abbrev pub ExitsSo : Result Exit RunError → Type 0
@@ -108,7 +110,26 @@ module _ (gate : GatePolicy) (d : Documents) (of : IsGateOn d.language d.policy 
   not_opened contents review_error.ChargeTooLarge h =
       by_documents ReviewRefused (refused_as contents (Some d.review) d.namespace d.params review_error.ChargeTooLarge (λ m. absurd (cc)) h) (inl refl)
 
-  module _ (laws : Laws) (roots : Roots) (given : values_given d ≡ Ok (started roots)) (has : HasValues roots (started roots)) where
+  -- the program has not begun
+  pub not_started : (values : Contents) (e : RunError) → values_given d ≡ Ok values → StartsGate gate values (Err e) → ExitsSo (Err e)
+  not_started values ReviewRefused given above =
+      let own = given_are_started (Some d.review) d.namespace d.params values given in
+      (inr (record { policy = policy; own = own.roots; are_given = given ∙ ap Ok own.are; beyond = above own.roots own.are }), tt)
+  not_started values Memory given e = (tt, tt)
+  not_started values (PolicyRefused e) given is = absurd is
+  not_started values NamespaceOrParamsRefused given is = absurd is
+  not_started values OutOfSteps given is = absurd is
+  not_started values OverLimit given is = absurd is
+  not_started values OutOfReads given is = absurd is
+
+  module _ (laws : Laws) (own : Roots) (given : values_given d ≡ Ok (started own)) (own_has : HasValues own (started own))
+      (fit : gate.wrapped ≡ true → (gate_contents gate own).charge ≤ charge_limit) where
+    abbrev roots : Roots
+    roots = placed_roots gate.wrapped own
+
+    has : HasValues roots (started roots)
+    has = placed_have_values gate.wrapped own own_has fit
+
     abbrev f : FailurePolicy
     f = gate.policy.failure_policy
 
@@ -123,7 +144,7 @@ module _ (gate : GatePolicy) (d : Documents) (of : IsGateOn d.language d.policy 
 
     abbrev run : PolicyRun d
     run = record {
-      case = record { policy = policy; roots = roots; are_given = given };
+      case = record { policy = policy; own = own; are_given = given; roots = roots; are_placed = refl; fit = placed_fit gate.wrapped own own_has fit };
       image = gate.image;
       program = of.1.program;
     }
@@ -167,7 +188,7 @@ module _ (gate : GatePolicy) (d : Documents) (of : IsGateOn d.language d.policy 
     exit_by w is (LeavesByExit by layout) =
         let memory = (laws.states.after gate.image (started roots) m of.1.program.code of.1.program.constants has.table).memory in
         let many = compiled_length gate.policy (Ok of.1.trees) of.1.trees of.1.compiles refl in
-        let alike = same_form d.language d.policy gate.told gate.policy of.0 in
+        let alike = same_form d.language d.policy gate.told gate.policy gate.wrapped of.0 in
         let few : length (decision run.case).findings ≤ length gate.told.validations = omega (arith, few_findings f of.1.trees roots, many, alike.validations) in
         let as_told = subst (λ (g : FailurePolicy). IsLayout g (decision run.case) s.values.values s.memory.verdict) (sym alike.failure_policy) layout in (
           record { case = run.case; of_policy = refl; is_memory = memory; few = few; layout = as_told; uid_is = refl },
@@ -188,28 +209,33 @@ module _ (gate : GatePolicy) (d : Documents) (of : IsGateOn d.language d.policy 
         let by : s.status ≡ Fault fault = sym same ∙ faulted in
         stopped_by fault by (stopped (ap is_running by))
 
-  module _ (laws : Laws) (values : Contents) (given : values_given d ≡ Ok values) where
-    -- a fact that holds for each start on roots holds for this one
-    of_values : (P : Contents → Type 0) → ((roots : Roots) → values_given d ≡ Ok (started roots) → HasValues roots (started roots) → P (started roots)) → P values
-    of_values P of_roots =
-        let own = given_have_values laws.tables laws.canonical (Some d.review) d.namespace d.params values given in
-        subst P (sym own.are) (of_roots own.roots (given ∙ ap Ok own.are) (subst (HasValues own.roots) own.are own.has))
+  module _ (laws : Laws) (values : Contents) (given : values_given d ≡ Ok values) (start : State) (first : IsFirst gate values start) where
+    own_roots : AreOfRoots values
+    own_roots = given_have_values laws.tables laws.canonical (Some d.review) d.namespace d.params values given
 
-    module _ (machine : State) (status : Status) (held : Bool) where
+    given_roots : values_given d ≡ Ok (started own_roots.roots)
+    given_roots = given ∙ ap Ok own_roots.are
+
+    have : HasValues own_roots.roots (started own_roots.roots)
+    have = subst (HasValues own_roots.roots) own_roots.are own_roots.has
+
+    begins : IsStart gate own_roots.roots start
+    begins = first own_roots.roots own_roots.are
+
+    module _ (machine : State) (status : Status) (held : Bool) (end : IsEndOf limits start machine status held) where
+      end_is : IsEndOf limits (start_state gate.image (gate_contents gate own_roots.roots)) machine status held
+      end_is = subst (λ (s : State). IsEndOf limits s machine status held) begins.first end
+
       -- the program has not exited
-      pub not_exited : IsEndOf limits (start_state gate.image values) machine status held → (e : NoExit) → HasExited status held (Err e) → ExitsSo (Err (no_exit_error e))
-      not_exited end e why =
-          of_values (λ v. IsEndOf limits (start_state gate.image v) machine status held → ExitsSo (Err (no_exit_error e)))
-          (λ roots begins has is. not_ended laws roots begins has e status held (is.status_is ∙ ap (λ (t : State). t.status) is.state) is.held_is why)
-          end
+      pub not_exited : (e : NoExit) → HasExited status held (Err e) → ExitsSo (Err (no_exit_error e))
+      not_exited e why =
+          not_ended laws own_roots.roots given_roots have begins.fit e status held (end_is.status_is ∙ ap (λ (t : State). t.status) end_is.state) end_is.held_is why
 
       -- the program has exited
-      pub has_exited : IsEndOf limits (start_state gate.image values) machine status held → (uid : List ℕ) → uid ≡ uid_in d.review → HasExited status held (Ok tt)
-          → ExitsSo (Ok (record { state = machine; uid = uid }))
-      has_exited end uid same exited =
-          of_values (λ v. IsEndOf limits (start_state gate.image v) machine status held → ExitsSo (Ok (record { state = machine; uid = uid })))
-          (λ roots begins has is. subst (λ (u : List ℕ). ExitsSo (Ok (record { state = machine; uid = u }))) (sym same) (ended laws roots begins has machine status held is exited))
-          end
+      pub has_exited : (uid : List ℕ) → uid ≡ uid_in d.review → HasExited status held (Ok tt) → ExitsSo (Ok (record { state = machine; uid = uid }))
+      has_exited uid same exited =
+          subst (λ (u : List ℕ). ExitsSo (Ok (record { state = machine; uid = u }))) (sym same)
+          (ended laws own_roots.roots given_roots have begins.fit machine status held end_is exited)
 
 -- ---- the results made from it
 

@@ -5,6 +5,7 @@ pub mod Said
 mod DocumentNumbers
 pub mod RootContents
 pub mod RootTables
+pub mod WrappedRoots
 pub mod Decided
 pub mod Standing
 pub mod OneReview

@@ -1,10 +1,11 @@
 -- A review has one result.
-use Rattle.admission.proofs.Prelude.{◌≡◌, ◌∙◌, ℕ, List, Result, Ok, Err, ap, arith, refl, sym, subst, F8, Roots, start_state, Exited, decision_of, outcome_word, OneImage, HasOneImage, Compiles, Policy, PolicyTree, Verdict, CompileError, Reply, Case, Documents, IsAnswered, IsPolicy, decision, started, values_given, ReviewHasOneResult, PolicyRunEnds, RunAgrees, uid_in, Profile, RunError, ReviewRefused, NamespaceOrParamsRefused, OutOfSteps, OverLimit, OutOfReads}
-use Rattle.std.specs.Prelude.{◌≢◌}
+use Rattle.admission.proofs.Prelude.{◌≡◌, ◌∙◌, ℕ, Bool, false, Some, List, Result, Ok, Err, ap, arith, refl, sym, subst, inl, inr, F8, Roots, start_state, Exited, decision_of, outcome_word, OneImage, HasOneImage, Compiles, Policy, PolicyTree, Verdict, CompileError, Reply, Case, Documents, IsAnswered, IsPolicy, decision, started, values_given, ReviewHasOneResult, PolicyRunEnds, RunAgrees, uid_in, Profile, RunError, ReviewRefused, NamespaceOrParamsRefused, OutOfSteps, OverLimit, OutOfReads}
+use Rattle.std.specs.Prelude.{◌≢◌, ◌<◌}
+use Rattle.value_store.specs.Placing.{charge_limit}
 use Rattle.bpf_machine.specs.declared.status.Status.TheVariants as status
 use Rattle.policy_glue.specs.Findings.{PolicyFinding, findings_of}
 use Rattle.policy_glue.specs.OneAnswer as policy
-use Rattle.admission.specs.Deciding.{HasNoResponse, IsPolicyRefused, answer_of}
+use Rattle.admission.specs.Deciding.{AreTooLarge, HasNoResponse, IsPolicyRefused, answer_of, placed_roots}
 use Rattle.admission.specs.Findings.{AreFindingsOf}
 use Rattle.admission.specs.OneAnswer.{FindingsHaveOneResult}
 use Rattle.admission.specs.Standing.{RunEnding, begins, ending, has_stopped, out_of_reads, out_of_steps}
@@ -12,33 +13,64 @@ use Rattle.admission.specs.declared.limits.Limits.{Limits}
 use Rattle.admission.specs.declared.policy_refusal.PolicyRefusal.{PolicyRefusal}
 use Rattle.admission.specs.declared.policy_refusal.PolicyRefusal.TheVariants as policy_refusal
 use Rattle.admission.specs.declared.run_error.RunError.TheVariants.{PolicyRefused, Memory}
-use Rattle.admission.proofs.Said.{IsOnePolicy, profile_said, said_once}
+use Rattle.admission.proofs.Results.{not_both, ok_same}
+use Rattle.admission.proofs.RootContents.{given_fit}
+use Rattle.admission.proofs.Said.{IsOnePolicy, profile_plain, profile_said, said_once}
 
 -- equal contents at the start have equal roots
 pub roots_once : (r s : Roots) → started r ≡ started s → r ≡ s
 roots_once r s is = grind arith
 
 -- the documents give one policy
-policies_once : (d : Documents) (c e : Case d) → IsOnePolicy c.policy.told c.policy.parsed e.policy.told e.policy.parsed
-policies_once d c e = said_once d.language d.policy c.policy.told c.policy.parsed e.policy.told e.policy.parsed c.policy.is_said e.policy.is_said
+policies_once : (d : Documents) (p q : IsPolicy d.language d.policy) → IsOnePolicy p.told p.parsed q.told q.parsed p.wrapped q.wrapped
+policies_once d p q = said_once d.language d.policy p.told p.parsed q.told q.parsed p.wrapped q.wrapped p.is_said q.is_said
 
 pub told_once : (d : Documents) (c e : Case d) → c.policy.told ≡ e.policy.told
-told_once d c e = (policies_once d c e).told_is
+told_once d c e = (policies_once d c.policy e.policy).told_is
 
 trees_once : policy.CompileHasOneResult → (p q : Policy) (t u : PolicyTree) → p ≡ q → Compiles p (Ok t) → Compiles q (Ok u) → t ≡ u
 trees_once compiles p q t u same a b =
     let both : ◌≡◌ {A = Result PolicyTree CompileError} (Ok t) (Ok u) = compiles q (Ok t) (Ok u) (subst (λ (x : Policy). Compiles x (Ok t)) same a) b in cc
 
-ok_values : (d : Documents) (c e : Case d) → started c.roots ≡ started e.roots
-ok_values d c e = let both = sym c.are_given ∙ e.are_given in cc
+-- the documents give the roots of one review
+own_once : (d : Documents) (r s : Roots) → values_given d ≡ Ok (started r) → values_given d ≡ Ok (started s) → r ≡ s
+own_once d r s is also = roots_once r s (ok_same (values_given d) (started r) (started s) is also)
+
+placed_once : (d : Documents) (c e : Case d) → c.roots ≡ e.roots
+placed_once d c e =
+    c.are_placed ∙ (λ i. placed_roots ((policies_once d c.policy e.policy).wrapped_is i) (own_once d c.own e.own c.are_given e.are_given i)) ∙ sym e.are_placed
+
+-- the program of a policy in the profile runs on the roots of the documents
+pub plain_roots : (d : Documents) (c : Case d) → c.policy.wrapped ≡ false → c.roots ≡ c.own
+plain_roots d c plain = c.are_placed ∙ ap (λ (w : Bool). placed_roots w c.own) plain
+
+pub profile_roots : (d : Documents) (c : Case d) → d.language ≡ Profile → c.roots ≡ c.own
+profile_roots d c profile = plain_roots d c (profile_plain d c.policy.told c.policy.parsed c.policy.wrapped profile c.policy.is_said)
+
+-- so these are not too large for it
+pub profile_fits : (d : Documents) → d.language ≡ Profile → AreTooLarge d → ⊥
+profile_fits d profile large =
+    let plain = profile_plain d large.policy.told large.policy.parsed large.policy.wrapped profile large.policy.is_said in
+    let beyond : charge_limit < (started large.own).charge = subst (λ (w : Bool). charge_limit < (started (placed_roots w large.own)).charge) plain large.beyond in
+    let within = given_fit (Some d.review) d.namespace d.params (started large.own) large.are_given in
+    omega (arith, beyond, within)
+
+-- roots that are too large are those of no case
+no_room : (d : Documents) → AreTooLarge d → Case d → ⊥
+no_room d large c =
+    let same : placed_roots large.policy.wrapped large.own ≡ c.roots =
+    (λ i. placed_roots ((policies_once d large.policy c.policy).wrapped_is i) (own_once d large.own c.own large.are_given c.are_given i)) ∙ sym c.are_placed in
+    let beyond : charge_limit < (started c.roots).charge = subst (λ (r : Roots). charge_limit < (started r).charge) same large.beyond in
+    let fit = c.fit in
+    omega (arith, beyond, fit)
 
 -- the documents give one case
 pub cases_once : policy.CompileHasOneResult → (d : Documents) (c e : Case d) → (c.policy.parsed ≡ e.policy.parsed) × (c.policy.trees ≡ e.policy.trees) × (c.roots ≡ e.roots)
 cases_once compiles d c e =
-    let same = (policies_once d c e).parsed_is in (
+    let same = (policies_once d c.policy e.policy).parsed_is in (
       same,
       trees_once compiles c.policy.parsed e.policy.parsed c.policy.trees e.policy.trees same c.policy.compiles e.policy.compiles,
-      roots_once c.roots e.roots (ok_values d c e),
+      placed_once d c e,
     )
 
 module _ (compiles : policy.CompileHasOneResult) (images : HasOneImage) (d : Documents) (limits : Limits) where
@@ -65,11 +97,13 @@ module _ (compiles : policy.CompileHasOneResult) (images : HasOneImage) (d : Doc
   data Cause : RunError → Type 0 where
     by_policy : (e : PolicyRefusal) → d.language ≡ Profile → IsPolicyRefused d.policy e → Cause (PolicyRefused e)
     by_values : {e : RunError} → IsPolicy d.language d.policy → values_given d ≡ Err e → Cause e
+    by_size : AreTooLarge d → Cause ReviewRefused
     by_run : {e : RunError} {due : RunEnding} → PolicyRunEnds OneImage d limits (λ v. due) → Shows e due → Cause e
 
   cause_of : (A : Type 0) (e : RunError) → (e ≡ Memory → ⊥) → HasNoResponse d limits e → RunAgrees {A = A} OneImage d limits (Err e) → Cause e
   cause_of A (PolicyRefused e) some why agrees = by_policy e why.0 why.1
-  cause_of A ReviewRefused some why agrees = by_values why.0 why.1
+  cause_of A ReviewRefused some (inl why) agrees = by_values why.0 why.1
+  cause_of A ReviewRefused some (inr why) agrees = by_size why
   cause_of A NamespaceOrParamsRefused some why agrees = by_values why.0 why.1
   cause_of A OutOfSteps some why agrees = by_run agrees runs
   cause_of A OverLimit some why agrees = by_run agrees is_stopped
@@ -77,14 +111,17 @@ module _ (compiles : policy.CompileHasOneResult) (images : HasOneImage) (d : Doc
   cause_of A Memory some why agrees = absurd (some refl)
 
   no_policy : (e : PolicyRefusal) → d.language ≡ Profile → IsPolicyRefused d.policy e → IsPolicy d.language d.policy → ⊥
-  no_policy (policy_refusal.Unread e) profile why p = let both = sym (profile_said d p.told p.parsed profile p.is_said) ∙ why in absurd (cc)
+  no_policy (policy_refusal.Unread e) profile why p = let both = sym (profile_said d p.told p.parsed p.wrapped profile p.is_said) ∙ why in absurd (cc)
   no_policy (policy_refusal.Uncompiled e) profile (q, is, unfit) p =
-      let same : p.parsed ≡ q = (let both = sym (profile_said d p.told p.parsed profile p.is_said) ∙ is in cc) in
+      let same : p.parsed ≡ q = (let both = sym (profile_said d p.told p.parsed p.wrapped profile p.is_said) ∙ is in cc) in
       let both : ◌≡◌ {A = Result PolicyTree CompileError} (Ok p.trees) (Err e) = compiles q (Ok p.trees) (Err e) (subst (λ (x : Policy). Compiles x (Ok p.trees)) same p.compiles) unfit in absurd (cc)
   no_policy policy_refusal.Memory profile why p = why
 
   no_values : (e : RunError) → values_given d ≡ Err e → Case d → ⊥
-  no_values e is c = let both = sym c.are_given ∙ is in absurd (cc)
+  no_values e is c = not_both (values_given d) (started c.own) e c.are_given is
+
+  no_size : (e : RunError) → values_given d ≡ Err e → AreTooLarge d → ⊥
+  no_size e is large = not_both (values_given d) (started large.own) e large.are_given is
 
   refusals_once : (e f : PolicyRefusal) → IsPolicyRefused d.policy e → IsPolicyRefused d.policy f → e ≡ f
   refusals_once (policy_refusal.Unread e) (policy_refusal.Unread f) is also = let both = sym is ∙ also in cc
@@ -112,12 +149,19 @@ module _ (compiles : policy.CompileHasOneResult) (images : HasOneImage) (d : Doc
   causes_once : (e f : RunError) → Cause e → Cause f → e ≡ f
   causes_once _ _ (by_policy e profile is) (by_policy f other also) = ap PolicyRefused (refusals_once e f is also)
   causes_once _ _ (by_policy e profile is) (by_values p also) = absurd (no_policy e profile is p)
+  causes_once _ _ (by_policy e profile is) (by_size also) = absurd (no_policy e profile is also.policy)
   causes_once _ _ (by_policy e profile is) (by_run also shown) = absurd (no_policy e profile is also.run.case.policy)
   causes_once _ _ (by_values p is) (by_policy f other also) = absurd (no_policy f other also p)
   causes_once e f (by_values p is) (by_values q also) = let both = sym is ∙ also in cc
+  causes_once e _ (by_values p is) (by_size also) = absurd (no_size e is also)
   causes_once e _ (by_values p is) (by_run also shown) = absurd (no_values e is also.run.case)
+  causes_once _ _ (by_size is) (by_policy f other also) = absurd (no_policy f other also is.policy)
+  causes_once _ f (by_size is) (by_values q also) = absurd (no_size f also is)
+  causes_once _ _ (by_size is) (by_size also) = refl
+  causes_once _ _ (by_size is) (by_run also shown) = absurd (no_room d is also.run.case)
   causes_once _ _ (by_run is shown) (by_policy f other also) = absurd (no_policy f other also is.run.case.policy)
   causes_once _ f (by_run is shown) (by_values q also) = absurd (no_values f also is.run.case)
+  causes_once _ _ (by_run is shown) (by_size also) = absurd (no_room d also is.run.case)
   causes_once e f (by_run {due = due} is shown) (by_run {due = other} also told) = shown_once e f due other (ends_once (λ v. due) (λ v. other) is also) shown told
 
   -- a program that has exited has no such cause
@@ -129,6 +173,7 @@ module _ (compiles : policy.CompileHasOneResult) (images : HasOneImage) (d : Doc
   exited : (e : RunError) → PolicyRunEnds OneImage d limits (λ v. has_stopped (Exited (outcome_word v.outcome))) → Cause e → ⊥
   exited _ ran (by_policy e profile is) = no_policy e profile is ran.run.case.policy
   exited e ran (by_values p is) = no_values e is ran.run.case
+  exited _ ran (by_size is) = no_room d is ran.run.case
   exited e ran (by_run {due = due} is shown) = no_exit _ e due (ends_once (λ v. has_stopped (Exited (outcome_word v.outcome))) (λ v. due) ran is) shown
 
   module _ {A : Type 0} (Gives : A → Type 0) (once : (x y : A) → Gives x → Gives y → x ≡ y) where

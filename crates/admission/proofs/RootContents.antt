@@ -1,5 +1,5 @@
 -- The contents at the start of a review's roots.
-use Rattle.admission.proofs.Prelude.{◌≡◌, ℕ, suc, Bool, true, false, List, [], ◌∷◌, ◌++◌, length, Option, Some, None, Result, Ok, Err, bytes_eq, refl, sym, ap, ◌∙◌, subst, arith, codes, map, nat_le, option_and_then, option_map, unwrap_or, if◌then◌else◌, get, StartIsCanonical, Contents, charge_limit, first_values, contents_of, root_of, root_then, roots_of, sizes, start_contents, TableError, RootsTooLarge, Roots, AreDocuments, HasNumbers, MembersHaveNumbers, StartsAreTables, HasValues, started, values_of_roots, document_of, ReviewRoots, accepted, contents_from, contents_given, document_given, documents_from, documents_given, is_review, members_in, parts_given, parts_in, parts_of, request_of, without, AreOfRoots, DocumentsHaveValues, GivenHaveValues, RunError}
+use Rattle.admission.proofs.Prelude.{◌≡◌, ℕ, suc, Bool, true, false, List, [], ◌∷◌, ◌++◌, length, Option, Some, None, Result, Ok, Err, bytes_eq, refl, sym, ap, ◌∙◌, subst, arith, ◌≤◌, leb-true, codes, map, nat_le, option_and_then, option_map, unwrap_or, if◌then◌else◌, get, StartIsCanonical, Contents, charge_limit, first_values, contents_of, root_of, root_then, roots_of, sizes, start_contents, TableError, RootsTooLarge, Roots, AreDocuments, HasNumbers, MembersHaveNumbers, StartsAreTables, HasValues, started, values_of_roots, document_of, ReviewRoots, accepted, contents_from, contents_given, document_given, documents_from, documents_given, is_review, members_in, parts_given, parts_in, parts_of, request_of, without, AreOfRoots, DocumentsHaveValues, GivenHaveValues, RunError}
 use Rattle.serde_json.specs.Data as json
 use Rattle.value_store.specs.Value.{Value, value}
 use Rattle.admission.proofs.DocumentNumbers.{document_fits, get_fits, member_fits}
@@ -106,6 +106,20 @@ started_by (Ok vs) values five h = limited (nat_le (sizes vs) charge_limit) vs v
 pub are_started : (ds : List json.Data) (values : Contents) → length ds ≡ 5 → start_contents ds ≡ Ok values → AreStarted values
 are_started ds values five e = started_by (roots_of 4 ds) values (λ vs h. as_many 4 ds vs h ∙ five) e
 
+-- and they are within the limit
+fit_when : (test : Bool) (vs : List Value) (values : Contents) → nat_le (sizes vs) charge_limit ≡ test
+    → (if test then Ok (record { values = first_values ++ map value vs; charge = sizes vs }) else Err RootsTooLarge) ≡ Ok values → values.charge ≤ charge_limit
+fit_when true vs values is e =
+    let same : record { values = first_values ++ map value vs; charge = sizes vs } ≡ values = cc in
+    let charge : sizes vs ≡ values.charge = ap (λ (c : Contents). c.charge) same in
+    let within = leb-true (sizes vs) charge_limit is in
+    omega (arith, charge, within)
+fit_when false vs values is e = absurd (cc)
+
+fit_by : (r : Result (List Value) TableError) (values : Contents) → contents_of r ≡ Ok values → values.charge ≤ charge_limit
+fit_by (Err e) values h = absurd (cc)
+fit_by (Ok vs) values h = fit_when (nat_le (sizes vs) charge_limit) vs values refl h
+
 -- programs can run on them
 pub has_values : StartsAreTables → StartIsCanonical → (ds : List json.Data) (r : Roots) → AreFive ds → start_contents ds ≡ Ok (started r) → HasValues r (started r)
 has_values tables canonical ds r five e = record {
@@ -121,14 +135,26 @@ roots_have_values tables canonical ds values five documents e =
     let has = has_values tables canonical ds own.roots (record { five = five; documents = documents }) (e ∙ ap Ok own.are) in
     record { roots = own.roots; are = own.are; has = subst (HasValues own.roots) (sym own.are) has }
 
-values_of_documents : (r : Result (List json.Data) RunError) (values : Contents) → contents_from r ≡ Ok values
-    → ((ds : List json.Data) → r ≡ Ok ds → start_contents ds ≡ Ok values → AreOfRoots values) → AreOfRoots values
-values_of_documents r values is then_have = grind arith
+values_of_documents : (P : Type 0) (r : Result (List json.Data) RunError) (values : Contents) → contents_from r ≡ Ok values
+    → ((ds : List json.Data) → r ≡ Ok ds → start_contents ds ≡ Ok values → P) → P
+values_of_documents P r values is then_have = grind arith
+
+-- the contents for documents that are not refused are those of some roots
+pub given_are_started : (review namespace params : Option (List ℕ)) (values : Contents) → contents_given review namespace params ≡ Ok values → AreStarted values
+unfolding contents_given
+given_are_started review namespace params values is =
+    values_of_documents (AreStarted values) (documents_given review namespace params) values is
+    (λ ds documents starts. are_started ds values (are_five review namespace params ds documents).five starts)
 
 pub given_have_values : StartsAreTables → StartIsCanonical → GivenHaveValues
 unfolding contents_given
 given_have_values tables canonical review namespace params values is =
-    values_of_documents (documents_given review namespace params) values is (λ ds documents starts. let own = are_five review namespace params ds documents in roots_have_values tables canonical ds values own.five own.documents starts)
+    values_of_documents (AreOfRoots values) (documents_given review namespace params) values is (λ ds documents starts. let own = are_five review namespace params ds documents in roots_have_values tables canonical ds values own.five own.documents starts)
+
+pub given_fit : (review namespace params : Option (List ℕ)) (values : Contents) → contents_given review namespace params ≡ Ok values → values.charge ≤ charge_limit
+unfolding contents_given
+given_fit review namespace params values is =
+    values_of_documents (values.charge ≤ charge_limit) (documents_given review namespace params) values is (λ ds documents starts. fit_by (roots_of 4 ds) values starts)
 
 -- the contents for the documents that become the roots
 pub contents_are : (review : List ℕ) (namespace params : Option (List ℕ)) (ds : List json.Data) (values : Contents) → documents_given (Some review) namespace params ≡ Ok ds → start_contents ds ≡ Ok values → contents_given (Some review) namespace params ≡ Ok values

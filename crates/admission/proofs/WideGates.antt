@@ -1,6 +1,5 @@
 -- Gates of policies in the wide language.
-use Rattle.admission.proofs.Prelude.{◌≡◌, ◌∙◌, List, ℕ, Err, sym, subst, IsSaid, Policy, Wide}
-use Rattle.loader.specs.Contents as loader
+use Rattle.admission.proofs.Prelude.{◌≡◌, List, ℕ, Err, sym, subst, Policy}
 use Rattle.policy_glue.specs.Compiled.{CompilesTo, IsCompiled}
 use Rattle.policy_glue.specs.declared.compile_error.CompileError.{CompileError}
 use Rattle.policy_glue.specs.declared.compile_error.CompileError.TheVariants as compile_error
@@ -23,17 +22,17 @@ module _ (rule : MessageRule) (document : List ℕ) where
 
   -- the translation does not compile
   pub translation_refused : (p : WidePolicy) → IsWidePolicy rule document p → (e : CompileError) → CompilesTo p.profile (Err e) → OpensWideGate rule document (Err (wide_compile_refusal e))
-  translation_refused p is (compile_error.InvalidExpression part place e) why = (p.source, p.profile, (p.left_out, is), why)
-  translation_refused p is compile_error.NotABool why = (p.source, p.profile, (p.left_out, is), why)
-  translation_refused p is compile_error.MessageNotAString why = (p.source, p.profile, (p.left_out, is), why)
-  translation_refused p is compile_error.TooManyNodes why = (p.source, p.profile, (p.left_out, is), why)
-  translation_refused p is compile_error.TooManyTextBytes why = (p.source, p.profile, (p.left_out, is), why)
+  translation_refused p is (compile_error.InvalidExpression part place e) why = (p.source, p.profile, p.wrapped, (p.left_out, is), why)
+  translation_refused p is compile_error.NotABool why = (p.source, p.profile, p.wrapped, (p.left_out, is), why)
+  translation_refused p is compile_error.MessageNotAString why = (p.source, p.profile, p.wrapped, (p.left_out, is), why)
+  translation_refused p is compile_error.TooManyNodes why = (p.source, p.profile, p.wrapped, (p.left_out, is), why)
+  translation_refused p is compile_error.TooManyTextBytes why = (p.source, p.profile, p.wrapped, (p.left_out, is), why)
   translation_refused p is compile_error.Memory why = tt
 
   -- the gate of a policy that is read
-  pub gate_is : (p : WidePolicy) → IsWidePolicy rule document p → (g : GatePolicy) → g.told ≡ p.source → g.policy ≡ p.profile → IsCompiled p.profile g.image
+  pub gate_is : (p : WidePolicy) → IsWidePolicy rule document p → (g : GatePolicy) → g.told ≡ p.source → g.policy ≡ p.profile → g.wrapped ≡ p.wrapped → IsCompiled p.profile g.image
       → IsWideGateOn rule document (record { gate = g; left_out = p.left_out })
-  gate_is p is g told policy compiled = record {
-    is_said = subst (λ (q : WidePolicy). IsWidePolicy rule document q) (λ i. record { source = sym told i; profile = sym policy i; left_out = p.left_out }) is;
+  gate_is p is g told policy wrapped compiled = record {
+    is_said = subst (λ (q : WidePolicy). IsWidePolicy rule document q) (λ i. record { source = sym told i; profile = sym policy i; left_out = p.left_out; wrapped = sym wrapped i }) is;
     compiled = subst (λ (q : Policy). IsCompiled q g.image) (sym policy) compiled;
   }

@@ -1,5 +1,5 @@
 -- The result of a review under a policy.
-use Rattle.std.specs.Prelude.{◌≡◌, ℕ, ◌+◌, ◌*◌, ◌<◌, ◌⊎◌, Bool, true, false, List, [], ◌∷◌, ◌++◌, map, Option, Some, Result, Ok, Err, Vec}
+use Rattle.std.specs.Prelude.{◌≡◌, ℕ, ◌+◌, ◌*◌, ◌<◌, ◌≤◌, ◌⊎◌, Bool, true, false, List, [], ◌∷◌, ◌++◌, map, Option, Some, Result, Ok, Err, Vec}
 use Rattle.std.specs.declared.alloc.Global.{Global}
 use Rattle.bpf_machine.specs.Reads.{no_limit}
 use Rattle.value_store.specs.Placing.{Contents, charge_limit, first_values}
@@ -17,6 +17,8 @@ use Rattle.policy_glue.specs.Response.{response_of}
 use Rattle.policy_glue.specs.Trees.{PolicyTree}
 use Rattle.policy_glue.specs.Verdict.{Verdict}
 use Rattle.policy_glue.specs.declared.outcome.Outcome.{Outcome, TheVariants.Skipped, TheVariants.Admitted}
+use Rattle.wide_translation.specs.Placed.{placed}
+use Rattle.wide_indices.specs.Tables.{index_tables, table_length}
 use Rattle.wide_policy.specs.Reading.{IsWidePolicy, WidePolicyReturns}
 use Rattle.wide_policy.specs.declared.left_out.LeftOut.{LeftOut}
 use Rattle.wide_policy.specs.declared.message_rule.MessageRule.{MessageRule}
@@ -61,17 +63,20 @@ answer_view (Err e) = Err e
 -- ---- policies
 
 -- The policy in a document of this language: with the texts of its author, which messages tell, and as it is compiled.
--- In the wide language these are its translations, and the first has no message expressions that are left out.
-abbrev pub IsSaid : Language → List ℕ → Policy → Policy → Type 0
-IsSaid Profile document told parsed = (policy_in document ≡ Ok parsed) × (told ≡ parsed)
-IsSaid (Wide rule) document told parsed =
-    (notes : Vec LeftOut Global) × IsWidePolicy rule document (record { source = told; profile = parsed; left_out = notes })
+-- In the wide language these are its translations, and the first has no message expressions that are left out. The
+-- program of one whose translations are `wrapped` runs on roots with a table of indices beside the params.
+abbrev pub IsSaid : Language → List ℕ → Policy → Policy → Bool → Type 0
+IsSaid Profile document told parsed wrapped = (policy_in document ≡ Ok parsed) × (told ≡ parsed) × (wrapped ≡ false)
+IsSaid (Wide rule) document told parsed wrapped =
+    (notes : Vec LeftOut Global)
+    × IsWidePolicy rule document (record { source = told; profile = parsed; left_out = notes; wrapped = wrapped })
 
 -- the document holds a policy that compiles
 pub record IsPolicy (language : Language) (document : List ℕ) : Type 0 where
   pub told : Policy
   pub parsed : Policy
-  pub is_said : IsSaid language document told parsed
+  pub wrapped : Bool
+  pub is_said : IsSaid language document told parsed wrapped
   pub trees : PolicyTree
   pub compiles : Compiles parsed (Ok trees)
 
@@ -96,7 +101,7 @@ CompilesDocument document (Err policy_refusal.Memory) = Unit {0}
 
 -- the document holds the policy of this gate, and its image is one of that policy
 abbrev pub IsGateOn : Language → List ℕ → GatePolicy → Type 0
-IsGateOn language document g = IsSaid language document g.told g.policy × IsCompiled g.policy g.image
+IsGateOn language document g = IsSaid language document g.told g.policy g.wrapped × IsCompiled g.policy g.image
 
 -- the gate of a document in the language that is compiled, or why there is none; or an allocation failed
 abbrev pub OpensGate : List ℕ → Result GatePolicy PolicyRefusal → Type 0
@@ -105,7 +110,8 @@ OpensGate document (Err e) = CompilesDocument document (Err e)
 
 -- the gate of a document in the wide language, with the message expressions that are left out
 pub record IsWideGateOn (rule : MessageRule) (document : List ℕ) (g : WideGate) : Type 0 where
-  pub is_said : IsWidePolicy rule document (record { source = g.gate.told; profile = g.gate.policy; left_out = g.left_out })
+  pub is_said :
+      IsWidePolicy rule document (record { source = g.gate.told; profile = g.gate.policy; left_out = g.left_out; wrapped = g.gate.wrapped })
   pub compiled : IsCompiled g.gate.policy g.gate.image
 
 -- why a document of the wide language gives no image
@@ -113,7 +119,7 @@ abbrev pub IsWideRefused : MessageRule → List ℕ → WideRefusal → Type 0
 IsWideRefused rule document (wide_refusal.Unread wide_error.Memory) = ⊥
 IsWideRefused rule document (wide_refusal.Unread e) = WidePolicyReturns rule document (Err e)
 IsWideRefused rule document (wide_refusal.Uncompiled e) =
-    (told parsed : Policy) × IsSaid (Wide rule) document told parsed × Compiles parsed (Err e)
+    (told parsed : Policy) × (wrapped : Bool) × IsSaid (Wide rule) document told parsed wrapped × Compiles parsed (Err e)
 IsWideRefused rule document wide_refusal.Memory = ⊥
 
 -- the gate, or why there is none; or an allocation failed
@@ -131,6 +137,11 @@ values_of_roots r = r.object ∷ r.old_object ∷ r.params ∷ r.namespace_objec
 -- the contents of the value store at the start, with these roots
 abbrev pub started : Roots → Contents
 started r = record { values = first_values ++ map value (values_of_roots r); charge = sizes (values_of_roots r) }
+
+-- the roots on which a policy's program runs, for those of the documents: with a table of indices beside the params if
+-- the policy's translations are wrapped
+abbrev pub placed_roots : Bool → Roots → Roots
+placed_roots wrapped own = placed wrapped (index_tables (table_length own)) own
 
 -- ---- reviews
 
@@ -151,11 +162,21 @@ pub record AreGiven (d : Documents) (values : Contents) (uid : List ℕ) : Type 
   pub contents : values_given d ≡ Ok values
   pub uid_is : uid ≡ uid_in d.review
 
--- the case to decide: the policy in one document, and the roots in the others
+-- the case to decide: the policy in one document, the roots in the others, and those on which its program runs
 pub record Case (d : Documents) : Type 0 where
   pub policy : IsPolicy d.language d.policy
+  pub own : Roots
+  pub are_given : values_given d ≡ Ok (started own)
   pub roots : Roots
-  pub are_given : values_given d ≡ Ok (started roots)
+  pub are_placed : roots ≡ placed_roots policy.wrapped own
+  pub fit : (started roots).charge ≤ charge_limit
+
+-- the documents' roots are too large with the table of indices that the policy needs
+pub record AreTooLarge (d : Documents) : Type 0 where
+  pub policy : IsPolicy d.language d.policy
+  pub own : Roots
+  pub are_given : values_given d ≡ Ok (started own)
+  pub beyond : charge_limit < (started (placed_roots policy.wrapped own)).charge
 
 -- the policy's decision
 abbrev pub decision : {d : Documents} → Case d → Verdict
@@ -196,7 +217,7 @@ pub record IsStopped (d : Documents) : Type 0 where
 -- limits; or that an allocation failed, at any time
 abbrev pub HasNoResponse : Documents → Limits → RunError → Type 0
 HasNoResponse d limits (PolicyRefused e) = (d.language ≡ Profile) × IsPolicyRefused d.policy e
-HasNoResponse d limits ReviewRefused = IsPolicy d.language d.policy × (values_given d ≡ Err ReviewRefused)
+HasNoResponse d limits ReviewRefused = (IsPolicy d.language d.policy × (values_given d ≡ Err ReviewRefused)) ⊎ AreTooLarge d
 HasNoResponse d limits NamespaceOrParamsRefused = IsPolicy d.language d.policy × (values_given d ≡ Err NamespaceOrParamsRefused)
 HasNoResponse d limits OutOfSteps = IsUnended d limits.steps
 HasNoResponse d limits OverLimit = IsStopped d

@@ -5,6 +5,7 @@ pub mod Refusals
 pub mod Reviews
 pub mod GatePolicies
 pub mod Deciding
+pub mod Starting
 pub mod Lent
 pub mod OneAnswer
 pub mod Decisions

@@ -18,7 +18,7 @@ use Rattle.admission.specs.declared.language.Language.TheVariants.{Wide as InWid
 pub record DecidesAsMeant {d : Documents} (others : Wide → WideEnvironment → Outcome) (case : Case d) : Type 0 where
   pub wide : WidePolicyTree
   pub texts : IsWideTree case.policy.told wide
-  pub decides : decision case ≡ wide_decision_of others case.policy.told.failure_policy wide case.roots
+  pub decides : decision case ≡ wide_decision_of others case.policy.told.failure_policy wide case.own
 
 -- a case whose policy is in the wide language is decided as its wide expressions mean
 abbrev pub WideCasesDecide : Type 0

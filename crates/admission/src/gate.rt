@@ -21,6 +21,7 @@ ghost use Rattle.admission.specs.Lent.{documents_in};
 ghost use Rattle.admission.specs.Decisions.{decision_value, decision_view, said_view, DecidesReview};
 ghost use Rattle.admission.specs.Findings.{findings_view, FindsReview};
 ghost use Rattle.admission.specs.Standing.{exactly, RunAgrees};
+ghost use Rattle.admission.specs.Starting.{IsFirst, PlacesRoots, StartsGate};
 ghost use Rattle.admission.specs.declared.language.Language.{Language};
 
 use crate::decision::Decision;
@@ -43,6 +44,7 @@ use std::marker::Model;
 use value_store::ValueStore;
 use value_store::laws::values_are_as_said;
 use value_table::Table;
+use wide_tables::{WrapError, wrapped};
 
 /// A policy that is compiled and decoded once and decides any number of reviews. No decision changes
 /// it, not even one whose allocation fails.
@@ -54,6 +56,8 @@ pub struct Gate {
     /// The policy that is compiled.
     policy: Policy,
     program: Program,
+    /// Whether the program runs on roots with a table of indices beside the params.
+    wrapped: bool,
 }
 
 impl Model for Gate {
@@ -61,7 +65,7 @@ impl Model for Gate {
 
     ghost Value = { GatePolicy };
 
-    ghost view = { λ g. record { told = told_or g.told g.policy; policy = g.policy; image = g.program } };
+    ghost view = { λ g. record { told = told_or g.told g.policy; policy = g.policy; image = g.program; wrapped = g.wrapped } };
 }
 
 impl Gate {
@@ -84,17 +88,20 @@ impl Gate {
             told: None,
             policy: compiled.policy,
             program,
+            wrapped: false,
         })
     }
 
-    /// Compiles the translation of a policy. Messages have the texts of `told`.
+    /// Compiles the translation of a policy. Messages have the texts of `told`. If the translation is
+    /// `wrapped`, it is decided on roots with a table of indices beside the params.
     pub(crate) fn of_translation(
         alloc: Global,
         told: Policy,
         policy: Policy,
+        wrapped: bool,
     ) -> Result<Gate, CompileError>
         ensures compiles { CompilesTo policy (gate_image result) }
-        ensures policies { IfOk result (λ g. (g.told ≡ told) × (g.policy ≡ policy)) }
+        ensures policies { IfOk result (λ g. (g.told ≡ told) × (g.policy ≡ policy) × (g.wrapped ≡ wrapped)) }
         ensures one { IfOk result (λ g. OneImage policy g.image) }
     {
         let image = compile(alloc, &policy)?;
@@ -104,6 +111,7 @@ impl Gate {
             told: Some(told),
             policy,
             program,
+            wrapped,
         })
     }
 
@@ -124,7 +132,8 @@ impl Gate {
     /// # Errors
     ///
     /// The first refusal. `ReviewRefused` and `NamespaceOrParamsRefused` refuse the documents, as
-    /// in `roots`. `OutOfSteps`: the program still runs after all its steps. `OutOfReads`: it still
+    /// in `roots`; the first also if the roots are too large with the table of indices that the
+    /// policy needs. `OutOfSteps`: the program still runs after all its steps. `OutOfReads`: it still
     /// runs, and its next helper call would bring what it reads above the limit. `OverLimit`: it was
     /// stopped before either. `Memory` if an allocation fails; the contract always allows it, and
     /// then states nothing of the review.
@@ -149,7 +158,7 @@ impl Gate {
     ///
     /// # Errors
     ///
-    /// `OutOfSteps`, `OverLimit`, `OutOfReads` and `Memory`, as in `decide`.
+    /// `ReviewRefused`, `OutOfSteps`, `OverLimit`, `OutOfReads` and `Memory`, as in `decide`.
     pub fn decide_on(&self, table: Table, uid: &str, limits: Limits) -> Result<Reply, RunError>
         ensures reviews { (d : Documents) → IsGateOn d.language d.policy self.now → AreGiven d (held_contents table) uid.now → Reviews d limits (answer_view result) }
         ensures runs { (d : Documents) → IsGateOn d.language d.policy self.now → AreGiven d (held_contents table) uid.now → RunAgrees (exactly self.now.image) d limits (answer_view result) }
@@ -163,7 +172,7 @@ impl Gate {
     ///
     /// # Errors
     ///
-    /// `OutOfSteps`, `OverLimit`, `OutOfReads` and `Memory`, as in `decide`.
+    /// `ReviewRefused`, `OutOfSteps`, `OverLimit`, `OutOfReads` and `Memory`, as in `decide`.
     pub fn decision_on(&self, table: Table, uid: &str, limits: Limits) -> Result<Decision, RunError>
         ensures says { (d : Documents) → IsGateOn d.language d.policy self.now → AreGiven d (held_contents table) uid.now → DecidesReview d limits (decision_view result) }
         ensures runs { (d : Documents) → IsGateOn d.language d.policy self.now → AreGiven d (held_contents table) uid.now → RunAgrees (exactly self.now.image) d limits (decision_view result) }
@@ -177,7 +186,7 @@ impl Gate {
     ///
     /// # Errors
     ///
-    /// `OutOfSteps`, `OverLimit`, `OutOfReads` and `Memory`, as in `decide`.
+    /// `ReviewRefused`, `OutOfSteps`, `OverLimit`, `OutOfReads` and `Memory`, as in `decide`.
     pub fn rejection_on(&self, table: Table, limits: Limits) -> Result<Option<Rejection>, RunError>
         ensures says { (d : Documents) (uid : List ℕ) → IsGateOn d.language d.policy self.now → AreGiven d (held_contents table) uid → DecidesReview d limits (said_view uid result) }
         ensures runs { (d : Documents) (uid : List ℕ) → IsGateOn d.language d.policy self.now → AreGiven d (held_contents table) uid → RunAgrees (exactly self.now.image) d limits (said_view uid result) }
@@ -191,7 +200,7 @@ impl Gate {
     ///
     /// # Errors
     ///
-    /// `OutOfSteps`, `OverLimit`, `OutOfReads` and `Memory`, as in `decide`.
+    /// `ReviewRefused`, `OutOfSteps`, `OverLimit`, `OutOfReads` and `Memory`, as in `decide`.
     pub fn findings_on(&self, table: Table, limits: Limits) -> Result<Vec<Finding>, RunError>
         ensures finds { (d : Documents) → IsGateOn d.language d.policy self.now → values_given d ≡ Ok (held_contents table) → FindsReview d limits (findings_view result) }
         ensures runs { (d : Documents) → IsGateOn d.language d.policy self.now → values_given d ≡ Ok (held_contents table) → RunAgrees (exactly self.now.image) d limits (findings_view result) }
@@ -209,8 +218,27 @@ impl Gate {
         conditions_name_namespace(self.alloc, &self.policy)
     }
 
+    /// A machine before its first step, with the policy's program and the roots on which it runs.
+    fn machine(&self, table: Table) -> Result<Machine<Table, Guest>, RunError>
+        ensures { StartsGate self.now (held_contents table) result }
+    {
+        let placed = self.placed(table)?;
+        Ok(self.machine_on(placed)?)
+    }
+
+    /// The table of the roots on which the policy's program runs.
+    fn placed(&self, table: Table) -> Result<Table, WrapError>
+        ensures { PlacesRoots self.now (held_contents table) result }
+    {
+        if self.wrapped {
+            wrapped(table)
+        } else {
+            Ok(table)
+        }
+    }
+
     /// A machine before its first step, with the policy's program and the roots in the table.
-    fn machine(&self, table: Table) -> Result<Machine<Table, Guest>, AllocError>
+    fn machine_on(&self, table: Table) -> Result<Machine<Table, Guest>, AllocError>
         ensures { IfOk result (λ m. m ≡ start_state self.now.image (held_contents table)) }
     {
         Machine::of_program(self.alloc, self.program.copy()?, table)
@@ -220,9 +248,9 @@ impl Gate {
     /// The machine is borrowed, since it is large.
     fn run(&self, machine: &mut Machine<Table, Guest>, limits: Limits) -> Result<(), RunError>
         ensures exits { (d : Documents) (uid : List ℕ) (roots : Contents) → IsGateOn d.language d.policy self.now → AreGiven d roots uid
-            → machine.old ≡ start_state self.now.image roots → Exits self.now.told d limits (exit_view uid (exit_state machine.new result)) }
+            → IsFirst self.now roots machine.old → Exits self.now.told d limits (exit_view uid (exit_state machine.new result)) }
         ensures runs { (d : Documents) (uid : List ℕ) (roots : Contents) → IsGateOn d.language d.policy self.now → AreGiven d roots uid
-            → machine.old ≡ start_state self.now.image roots → RunAgrees (exactly self.now.image) d limits (exit_view uid (exit_state machine.new result)) }
+            → IsFirst self.now roots machine.old → RunAgrees (exactly self.now.image) d limits (exit_view uid (exit_state machine.new result)) }
     {
         starts_stand();
         let end = machine.run_within(limits.steps, limits.reads)?;

@@ -1,7 +1,7 @@
 //! Why a review has no response.
 ghost use Rattle.std.specs.Prelude.{◌≡◌};
 ghost use Rattle.admission.specs.Exiting.{no_exit_error};
-ghost use Rattle.admission.specs.Refusals.{run_policy_refusal};
+ghost use Rattle.admission.specs.Refusals.{placing_refusal, run_policy_refusal};
 ghost use Rattle.admission.specs.Reviews.{refusal_at, table_refusal};
 ghost use Rattle.admission.specs.declared.run_error.RunError.TheVariants as run_error;
 
@@ -10,6 +10,7 @@ use review_tables::ReviewError;
 use run_ends::NoExit;
 use std::alloc::AllocError;
 use thiserror::Error;
+use wide_tables::WrapError;
 
 /// Why a review has no response. The policy is checked first, then the form of the review, the
 /// namespace and the params, then the roots. The program runs last.
@@ -19,7 +20,8 @@ pub enum RunError {
     #[error("the policy is refused")]
     PolicyRefused(PolicyRefusal),
     /// The review is not a JSON text or does not have the form of a review; or the root object,
-    /// oldObject or request is refused; or the roots together are too large.
+    /// oldObject or request is refused; or the roots together are too large, as they are or with the
+    /// table of indices that the policy needs.
     #[error("the review is refused")]
     ReviewRefused,
     /// The namespace or the params are not a JSON text, or are refused as a root.
@@ -91,6 +93,17 @@ impl From<ReviewError> for RunError {
             ReviewError::RootRefused(place) => refusal_at(place),
             ReviewError::ChargeTooLarge => RunError::ReviewRefused,
             ReviewError::Memory => RunError::Memory,
+        }
+    }
+}
+
+impl From<WrapError> for RunError {
+    ghost from_gives = { λ e r. r ≡ placing_refusal e };
+
+    fn from(error: WrapError) -> RunError {
+        match error {
+            WrapError::Memory => RunError::Memory,
+            WrapError::NoRoots | WrapError::TooLarge => RunError::ReviewRefused,
         }
     }
 }

@@ -31,7 +31,7 @@ impl WideGate {
         ensures one { IfOk result (λ g. OneImage g.gate.policy g.gate.image) }
     {
         let read = WidePolicy::read(alloc, policy, rule)?;
-        let gate = Gate::of_translation(alloc, read.source, read.profile)?;
+        let gate = Gate::of_translation(alloc, read.source, read.profile, read.wrapped)?;
         Ok(WideGate {
             gate,
             left_out: read.left_out,

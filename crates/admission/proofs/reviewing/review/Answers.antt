@@ -14,7 +14,7 @@ returns-clause-reviews c = rw (← c.of_steps.ensures) (c.decide.ensures.reviews
 pub returns-clause-runs : goal.returns-clause-runs
 returns-clause-runs c =
     let documents = documents_lent c.args.policy.now c.args.review.now c.args.namespace c.args.params in
-    of_one documents (steps_alone c.args.n) _ _ _ (answer_view c.decide.result) c.in_ok-gate.ensures.compiles.0 c.in_ok-gate.ensures.one
+    of_one documents (steps_alone c.args.n) _ _ _ _ (answer_view c.decide.result) c.in_ok-gate.ensures.compiles.0 c.in_ok-gate.ensures.one
     (subst (λ (l : Limits). RunAgrees (exactly c.in_ok-gate.gate.image) documents l (answer_view c.decide.result)) c.of_steps.ensures (c.decide.ensures.runs _ _ c.in_ok-gate.ensures.compiles))
 
 pub returns-clause-unlimited : goal.returns-clause-unlimited

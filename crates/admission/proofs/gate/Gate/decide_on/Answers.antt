@@ -1,15 +1,17 @@
 -- Proofs of `gate::Gate::decide_on`: the result meets the contract.
 
 use Rattle.admission.proofs.Prelude.{Reply, Exit, exactly}
-use Rattle.admission.proofs.Decided.{answered, refused_so}
+use Rattle.admission.proofs.Decided.{answered, not_started, refused_so}
 use Rattle.admission.proofs.Results.{is_err}
 use Rattle.admission.proofs.gate.Gate.decide_on.Goals as goal
 
-pub returns-in_err-machine-clause-reviews : goal.returns-in_err-machine-clause-reviews
-returns-in_err-machine-clause-reviews c = rw (is_err c.from_residual.ensures.1) (λ d of given. tt)
-
-pub returns-in_err-machine-clause-runs : goal.returns-in_err-machine-clause-runs
-returns-in_err-machine-clause-runs c = rw (is_err c.from_residual.ensures.1) (λ d of given. tt)
+pub returns-in_err-machine : goal.returns-in_err-machine
+returns-in_err-machine c =
+    rw (is_err c.from_residual.ensures.1)
+    (record {
+      reviews = λ d of given. (not_started c.args.self.now d of c.args.limits _ _ given.contents c.in_err-machine.ensures).0;
+      runs = λ d of given. refused_so Exit Reply (exactly c.args.self.now.image) d c.args.limits _ (not_started c.args.self.now d of c.args.limits _ _ given.contents c.in_err-machine.ensures).1;
+    })
 
 pub returns-in_err-run : goal.returns-in_err-run
 returns-in_err-run c =

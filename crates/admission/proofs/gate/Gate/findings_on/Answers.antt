@@ -1,15 +1,17 @@
 -- Proof obligations of `gate::Gate::findings_on`.
 use Rattle.policy_glue.specs.Findings.{PolicyFinding}
 use Rattle.admission.proofs.Prelude.{List, refl, Exit, exactly, uid_in}
-use Rattle.admission.proofs.Decided.{found_so, refused_so}
+use Rattle.admission.proofs.Decided.{found_so, not_started, refused_so}
 use Rattle.admission.proofs.Results.{is_err}
 use Rattle.admission.proofs.gate.Gate.findings_on.Goals as goal
 
-pub returns-in_err-machine-clause-finds : goal.returns-in_err-machine-clause-finds
-returns-in_err-machine-clause-finds c = rw (is_err c.from_residual.ensures.1) (λ d of given. tt)
-
-pub returns-in_err-machine-clause-runs : goal.returns-in_err-machine-clause-runs
-returns-in_err-machine-clause-runs c = rw (is_err c.from_residual.ensures.1) (λ d of given. tt)
+pub returns-in_err-machine : goal.returns-in_err-machine
+returns-in_err-machine c =
+    rw (is_err c.from_residual.ensures.1)
+    (record {
+      finds = λ d of given. (not_started c.args.self.now d of c.args.limits _ _ given c.in_err-machine.ensures).0;
+      runs = λ d of given. refused_so Exit (List PolicyFinding) (exactly c.args.self.now.image) d c.args.limits _ (not_started c.args.self.now d of c.args.limits _ _ given c.in_err-machine.ensures).1;
+    })
 
 pub returns-in_err-run : goal.returns-in_err-run
 returns-in_err-run c =

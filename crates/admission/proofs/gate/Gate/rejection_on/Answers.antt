@@ -2,15 +2,17 @@
 
 use Rattle.policy_glue.specs.Rejections.{Rejection}
 use Rattle.admission.proofs.Prelude.{Option, ap, Exit, Decision, exactly}
-use Rattle.admission.proofs.Decided.{refused_so, said_by, said_so}
+use Rattle.admission.proofs.Decided.{not_started, refused_so, said_by, said_so}
 use Rattle.admission.proofs.Results.{is_err}
 use Rattle.admission.proofs.gate.Gate.rejection_on.Goals as goal
 
-pub returns-in_err-machine-clause-says : goal.returns-in_err-machine-clause-says
-returns-in_err-machine-clause-says c = rw (is_err c.from_residual.ensures.1) (λ d uid of given. tt)
-
-pub returns-in_err-machine-clause-runs : goal.returns-in_err-machine-clause-runs
-returns-in_err-machine-clause-runs c = rw (is_err c.from_residual.ensures.1) (λ d uid of given. tt)
+pub returns-in_err-machine : goal.returns-in_err-machine
+returns-in_err-machine c =
+    rw (is_err c.from_residual.ensures.1)
+    (record {
+      says = λ d uid of given. (not_started c.args.self.now d of c.args.limits _ _ given.contents c.in_err-machine.ensures).0;
+      runs = λ d uid of given. refused_so Exit Decision (exactly c.args.self.now.image) d c.args.limits _ (not_started c.args.self.now d of c.args.limits _ _ given.contents c.in_err-machine.ensures).1;
+    })
 
 pub returns-in_err-run : goal.returns-in_err-run
 returns-in_err-run c =

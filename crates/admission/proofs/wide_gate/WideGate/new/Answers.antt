@@ -14,7 +14,7 @@ returns-in_err-gate-clause-opens c =
 
 pub returns-clause-opens : goal.returns-clause-opens
 returns-clause-opens c =
-    gate_is _ _ c.in_ok-read.read c.in_ok-read.ensures.reads c.in_ok-gate.gate c.in_ok-gate.ensures.policies.0 c.in_ok-gate.ensures.policies.1 c.in_ok-gate.ensures.compiles
+    gate_is _ _ c.in_ok-read.read c.in_ok-read.ensures.reads c.in_ok-gate.gate c.in_ok-gate.ensures.policies.0 c.in_ok-gate.ensures.policies.1 c.in_ok-gate.ensures.policies.2 c.in_ok-gate.ensures.compiles
 
 pub returns-clause-one : goal.returns-clause-one
 returns-clause-one c = subst (λ (p : Policy). OneImage p c.in_ok-gate.gate.image) (sym c.in_ok-gate.ensures.policies.1) c.in_ok-gate.ensures.one
