@@ -28,7 +28,7 @@ module _ (language : Language) where
   compiled_with p gate names of naming = record {
     text = of.text;
     has_text = of.has_text;
-    is_policy = record { told = gate.told; parsed = gate.policy; is_said = of.of_policy.0; trees = of.of_policy.1.trees; compiles = of.of_policy.1.compiles };
+    is_policy = record { told = gate.told; parsed = gate.policy; wrapped = gate.wrapped; is_said = of.of_policy.0; trees = of.of_policy.1.trees; compiles = of.of_policy.1.compiles };
     naming = naming;
   }
 

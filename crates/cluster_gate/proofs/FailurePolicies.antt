@@ -190,13 +190,13 @@ wide_read d q e = taken_by (has_audit_annotations d) (policy_of (normal_document
 
 -- ---- the law
 
-closed_as_said : (l : Language) (d : json.Data) (text : List ℕ) (told parsed : Policy) → document_of text ≡ Some (compiled_document d) → IsSaid l text told parsed
+closed_as_said : (l : Language) (d : json.Data) (text : List ℕ) (told parsed : Policy) (wrapped : Bool) → document_of text ≡ Some (compiled_document d) → IsSaid l text told parsed wrapped
     → fails_closed d ≡ denies_errors parsed.failure_policy
 unfolding policy_in wide_policy_in
-closed_as_said Profile d text told parsed reads said =
+closed_as_said Profile d text told parsed wrapped reads said =
     closed_by (in_object spec_members) failure_compiled shown d (compiled_document d) parsed (spec_compiled d)
     (subst (λ (o : Option json.Data). option_map_or policy_of o (Err NotJson) ≡ Ok parsed) reads said.0)
-closed_as_said (Wide rule) d text told parsed reads said =
+closed_as_said (Wide rule) d text told parsed wrapped reads said =
     let q = said.1.parsed in
     let read = subst (λ (o : Option json.Data). option_map_or wide_policy_of o (Err (Unread NotJson)) ≡ Ok q) reads said.1.is_said in
     closed_by wide_spec wide_keeps wide_shown d (normal_document (compiled_document d)) q (wide_made d) (wide_read (compiled_document d) q read)
@@ -204,4 +204,4 @@ closed_as_said (Wide rule) d text told parsed reads said =
 
 pub fails_closed_as_compiled : FailsClosedAsCompiled
 fails_closed_as_compiled l p names c shallow =
-    closed_as_said l p.document c.text c.is_policy.told c.is_policy.parsed (c.has_text.reads (compiled_shallow p.document shallow)) c.is_policy.is_said
+    closed_as_said l p.document c.text c.is_policy.told c.is_policy.parsed c.is_policy.wrapped (c.has_text.reads (compiled_shallow p.document shallow)) c.is_policy.is_said

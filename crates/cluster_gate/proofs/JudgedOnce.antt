@@ -36,35 +36,35 @@ module _ (language : Language) where
     not_both p q t e same a b =
         let both : ◌≡◌ {A = Result PolicyTree CompileError} (Ok t) (Err e) = compiles_once q (Ok t) (Err e) (subst (λ (x : Policy). Compiles x (Ok t)) same a) b in absurd (cc)
 
-    wide_refused : (rule : MessageRule) (text : List ℕ) (told parsed : Policy) (trees : PolicyTree) (e : WideRefusal) → IsSaid (Wide rule) text told parsed
+    wide_refused : (rule : MessageRule) (text : List ℕ) (told parsed : Policy) (wrapped : Bool) (trees : PolicyTree) (e : WideRefusal) → IsSaid (Wide rule) text told parsed wrapped
         → Compiles parsed (Ok trees) → IsWideRefused rule text e → ⊥
-    wide_refused rule text told parsed trees (wide_refusal.Unread (wide_error.Unread x)) said compiles is = not_refused rule text _ (wide_error.Unread x) (λ g. cc) said.1 is
-    wide_refused rule text told parsed trees (wide_refusal.Unread wide_error.HasAuditAnnotations) said compiles is =
+    wide_refused rule text told parsed wrapped trees (wide_refusal.Unread (wide_error.Unread x)) said compiles is = not_refused rule text _ (wide_error.Unread x) (λ g. cc) said.1 is
+    wide_refused rule text told parsed wrapped trees (wide_refusal.Unread wide_error.HasAuditAnnotations) said compiles is =
         not_refused rule text _ wide_error.HasAuditAnnotations (λ g. cc) said.1 is
-    wide_refused rule text told parsed trees (wide_refusal.Unread (wide_error.InvalidExpression k n x)) said compiles is =
+    wide_refused rule text told parsed wrapped trees (wide_refusal.Unread (wide_error.InvalidExpression k n x)) said compiles is =
         not_refused rule text _ (wide_error.InvalidExpression k n x) (λ g. cc) said.1 is
-    wide_refused rule text told parsed trees (wide_refusal.Unread wide_error.Memory) said compiles is = is
-    wide_refused rule text told parsed trees (wide_refusal.Uncompiled x) said compiles (other, also, is, unfit) =
-        not_both parsed also trees x (said_once (Wide rule) text told parsed other also said is).parsed_is compiles unfit
-    wide_refused rule text told parsed trees wide_refusal.Memory said compiles is = is
+    wide_refused rule text told parsed wrapped trees (wide_refusal.Unread wide_error.Memory) said compiles is = is
+    wide_refused rule text told parsed wrapped trees (wide_refusal.Uncompiled x) said compiles (other, also, as_well, is, unfit) =
+        not_both parsed also trees x (said_once (Wide rule) text told parsed other also wrapped as_well said is).parsed_is compiles unfit
+    wide_refused rule text told parsed wrapped trees wide_refusal.Memory said compiles is = is
 
     -- a text of a policy that compiles is not refused
-    refused_by : (l : Language) (text other : List ℕ) (told parsed : Policy) (trees : PolicyTree) (cause : BlockCause) → document_of text ≡ document_of other
-        → IsSaid l text told parsed → Compiles parsed (Ok trees) → IsRefusedText l other cause → ⊥
-    refused_by Profile text other told parsed trees (Refused (Unread e)) same said compiles is =
+    refused_by : (l : Language) (text other : List ℕ) (told parsed : Policy) (wrapped : Bool) (trees : PolicyTree) (cause : BlockCause) → document_of text ≡ document_of other
+        → IsSaid l text told parsed wrapped → Compiles parsed (Ok trees) → IsRefusedText l other cause → ⊥
+    refused_by Profile text other told parsed wrapped trees (Refused (Unread e)) same said compiles is =
         let both = sym said.0 ∙ same_policy text other same ∙ is in absurd (cc)
-    refused_by Profile text other told parsed trees (Refused (Uncompiled e)) same said compiles (q, is, unfit) =
+    refused_by Profile text other told parsed wrapped trees (Refused (Uncompiled e)) same said compiles (q, is, unfit) =
         let alike : parsed ≡ q = (let both = sym said.0 ∙ same_policy text other same ∙ is in cc) in
         not_both parsed q trees e alike compiles unfit
-    refused_by Profile text other told parsed trees (Refused policy_refusal.Memory) same said compiles is = is
-    refused_by Profile text other told parsed trees (RefusedWide e) same said compiles is = is
-    refused_by Profile text other told parsed trees NamesNamespace same said compiles is = is
-    refused_by Profile text other told parsed trees UnknownParamKind same said compiles is = is
-    refused_by (Wide rule) text other told parsed trees (RefusedWide e) same said compiles is =
-        wide_refused rule other told parsed trees e (said_moved (Wide rule) text other told parsed same said) compiles is
-    refused_by (Wide rule) text other told parsed trees (Refused e) same said compiles is = is
-    refused_by (Wide rule) text other told parsed trees NamesNamespace same said compiles is = is
-    refused_by (Wide rule) text other told parsed trees UnknownParamKind same said compiles is = is
+    refused_by Profile text other told parsed wrapped trees (Refused policy_refusal.Memory) same said compiles is = is
+    refused_by Profile text other told parsed wrapped trees (RefusedWide e) same said compiles is = is
+    refused_by Profile text other told parsed wrapped trees NamesNamespace same said compiles is = is
+    refused_by Profile text other told parsed wrapped trees UnknownParamKind same said compiles is = is
+    refused_by (Wide rule) text other told parsed wrapped trees (RefusedWide e) same said compiles is =
+        wide_refused rule other told parsed wrapped trees e (said_moved (Wide rule) text other told parsed wrapped same said) compiles is
+    refused_by (Wide rule) text other told parsed wrapped trees (Refused e) same said compiles is = is
+    refused_by (Wide rule) text other told parsed wrapped trees NamesNamespace same said compiles is = is
+    refused_by (Wide rule) text other told parsed wrapped trees UnknownParamKind same said compiles is = is
 
     module _ (p : BoundPolicy) (shallow : IsShallow p.document) where
       pub one_reading : (t u : List ℕ) → IsJsonTextOf (compiled_document p.document) t → IsJsonTextOf (compiled_document p.document) u → document_of t ≡ document_of u
@@ -74,15 +74,15 @@ module _ (language : Language) where
       naming_once : (x y : Bool) → IsCompiledPolicy language p x → IsCompiledPolicy language p y → x ≡ y
       naming_once x y a b =
           let reads = one_reading b.text a.text b.has_text a.has_text in
-          let moved = said_moved language b.text a.text b.is_policy.told b.is_policy.parsed reads b.is_policy.is_said in
-          let same = (said_once language a.text a.is_policy.told a.is_policy.parsed b.is_policy.told b.is_policy.parsed a.is_policy.is_said moved).parsed_is in
+          let moved = said_moved language b.text a.text b.is_policy.told b.is_policy.parsed b.is_policy.wrapped reads b.is_policy.is_said in
+          let same = (said_once language a.text a.is_policy.told a.is_policy.parsed b.is_policy.told b.is_policy.parsed a.is_policy.wrapped b.is_policy.wrapped a.is_policy.is_said moved).parsed_is in
           let trees = trees_once a.is_policy.parsed b.is_policy.parsed a.is_policy.trees b.is_policy.trees same a.is_policy.compiles b.is_policy.compiles in
           sym a.naming ∙ (ap conditions_name_namespace trees ∙ b.naming)
 
       -- a policy that is compiled is not refused
       pub compiled_or_refused : (x : Bool) (cause : BlockCause) → IsCompiledPolicy language p x → IsRefusedPolicy language p cause → ⊥
       compiled_or_refused x cause a b =
-          refused_by language a.text b.text a.is_policy.told a.is_policy.parsed a.is_policy.trees cause (one_reading a.text b.text a.has_text b.has_text) a.is_policy.is_said a.is_policy.compiles b.refused
+          refused_by language a.text b.text a.is_policy.told a.is_policy.parsed a.is_policy.wrapped a.is_policy.trees cause (one_reading a.text b.text a.has_text b.has_text) a.is_policy.is_said a.is_policy.compiles b.refused
 
       -- nothing blocks a policy, or this, as its steps show it
       pub judged_once : (s : ClusterState) (c d : Option BlockCause) → IsJudged language s p c → IsJudged language s p d → option_map block_of c ≡ option_map block_of d

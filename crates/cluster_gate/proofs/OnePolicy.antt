@@ -8,6 +8,7 @@ use Rattle.cluster_gate.specs.Gates.{IsRefusedPolicy, IsRefusedText, kind_of}
 use Rattle.cluster_plan.specs.Steps.{bindings_of, binding_answered, binding_steps, evaluations, fails_closed, params_for, params_steps, policy_answered}
 use Rattle.cluster_gate.proofs.Prelude.{◌≡◌, ◌∙◌, ◌∷◌, ◌++◌, ℕ, List, [], Bool, true, false, Option, Some, None, Result, Ok, Err, ap, append-nil, map, option_map, refl, subst, sym, BoundPolicy, ClusterState, Dispatches, Event, IsJudged, OneImage, PlannedStep, Request, RunsBindings, RunsSteps, asked_policy, block_of, by_block, policies_asked, policy_steps}
 use Rattle.std.specs.List.{list_any, All}
+use Rattle.std.proofs.Common.{inl, inr}
 use Rattle.std.specs.Prelude.{◌≢◌, bytes_eq, if◌then◌else◌, cond, is_some, is_none, option_and_then, ◌&&◌}
 use Rattle.serde_json.specs.Data as json
 use Rattle.serde_json.specs.Written.{compact_text}
@@ -65,7 +66,8 @@ is_wide (Wide rule) text e is = (rule, refl)
 has_policy : (d : Documents) (limits : Limits) (rule : MessageRule) → d.language ≡ Wide rule → (r : Result Reply RunError) → r ≢ Err run_error.Memory → Reviews d limits r → IsPolicy d.language d.policy
 has_policy d limits rule wide (Ok reply) some is = is.case.policy
 has_policy d limits rule wide (Err (run_error.PolicyRefused e)) some is = let both : Profile ≡ Wide rule = sym is.0 ∙ wide in absurd (cc)
-has_policy d limits rule wide (Err run_error.ReviewRefused) some is = is.0
+has_policy d limits rule wide (Err run_error.ReviewRefused) some (inl is) = is.0
+has_policy d limits rule wide (Err run_error.ReviewRefused) some (inr is) = is.policy
 has_policy d limits rule wide (Err run_error.NamespaceOrParamsRefused) some is = is.0
 has_policy d limits rule wide (Err run_error.OutOfSteps) some is = is.case.policy
 has_policy d limits rule wide (Err run_error.OverLimit) some is = is.case.policy
@@ -85,7 +87,7 @@ module _ (language : Language) where
   case_found : (d : Documents) (case : Case d) → NoneExactlyIf (is_allowed (decision case).outcome) (findings_of case.policy.told (decision case))
   case_found d case =
       let policy = case.policy in
-      let alike = same_form d.language d.policy policy.told policy.parsed policy.is_said in
+      let alike = same_form d.language d.policy policy.told policy.parsed policy.wrapped policy.is_said in
       let many = compiled_length policy.parsed (Ok policy.trees) policy.trees policy.compiles refl in
       subst (λ (f : FailurePolicy). NoneExactlyIf (is_allowed (decision_of f policy.trees case.roots).outcome) (findings_of policy.told (decision_of f policy.trees case.roots))) alike.failure_policy
       (found_or_allowed policy.told policy.trees case.roots (many ∙ sym alike.validations))

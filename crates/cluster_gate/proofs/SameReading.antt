@@ -1,5 +1,6 @@
 -- Documents whose texts are read as the same values decide alike.
 use Rattle.cluster_gate.proofs.Prelude.{◌≡◌, ◌∙◌, ◌≤◌, ℕ, Bool, true, false, List, Option, Some, None, Result, Ok, Err, ap, arith, refl, subst, sym}
+use Rattle.std.proofs.Common.{inl, inr}
 use Rattle.std.specs.Option.{option_map_or}
 use Rattle.serde_json.specs.Data as json
 use Rattle.value_store.specs.Documents.{document_given, document_of}
@@ -13,7 +14,7 @@ use Rattle.wide_policy.specs.WideDocuments.{wide_policy_in, wide_policy_of}
 use Rattle.wide_policy.specs.declared.message_rule.MessageRule.{MessageRule}
 use Rattle.wide_policy.specs.declared.policy.WidePolicy.{WidePolicy}
 use Rattle.wide_policy.specs.declared.wide_policy_error.WidePolicyError.TheVariants as wide_error
-use Rattle.admission.specs.Deciding.{Case, Documents, HasNoResponse, IsPolicy, IsPolicyRefused, IsSaid, IsWideRefused, values_given}
+use Rattle.admission.specs.Deciding.{AreTooLarge, Case, Documents, HasNoResponse, IsPolicy, IsPolicyRefused, IsSaid, IsWideRefused, values_given}
 use Rattle.admission.specs.Findings.{FindsReview}
 use Rattle.admission.specs.Reviews.{contents_from, contents_given, documents_from, documents_given}
 use Rattle.admission.specs.Standing.{RunEnding, Images, RunAgrees, PolicyRunEnds}
@@ -62,16 +63,17 @@ wide_moved rule t u p same is = record {
   parsed = is.parsed;
   is_said = sym (same_wide t u same) ∙ is.is_said;
   parts = is.parts;
-  end = is.end;
+  taken = is.taken;
   source = is.source;
   profile = is.profile;
   left_out = is.left_out;
 }
 
 -- a policy of one text is one of the other, in each language
-pub said_moved : (l : Language) (t u : List ℕ) (told parsed : Policy) → document_of t ≡ document_of u → IsSaid l t told parsed → IsSaid l u told parsed
-said_moved Profile t u told parsed same is = (sym (same_policy t u same) ∙ is.0, is.1)
-said_moved (Wide rule) t u told parsed same is = (is.0, wide_moved rule t u _ same is.1)
+pub said_moved : (l : Language) (t u : List ℕ) (told parsed : Policy) (wrapped : Bool) → document_of t ≡ document_of u → IsSaid l t told parsed wrapped
+    → IsSaid l u told parsed wrapped
+said_moved Profile t u told parsed wrapped same is = (sym (same_policy t u same) ∙ is.0, is.1, is.2)
+said_moved (Wide rule) t u told parsed wrapped same is = (is.0, wide_moved rule t u _ same is.1)
 
 pub same_contents : (r s : List ℕ) (n m p q : Option (List ℕ)) → r ≡ s → document_given n ≡ document_given m → document_given p ≡ document_given q
     → contents_given (Some r) n p ≡ contents_given (Some s) m q
@@ -102,36 +104,47 @@ refused_moved t u same policy_refusal.Memory is = is
 pub wide_refused_moved : (rule : MessageRule) (t u : List ℕ) → document_of t ≡ document_of u → (r : WideRefusal) → IsWideRefused rule t r → IsWideRefused rule u r
 wide_refused_moved rule t u same (wide_refusal.Unread (wide_error.Unread x)) is = sym (same_wide t u same) ∙ is
 wide_refused_moved rule t u same (wide_refusal.Unread wide_error.HasAuditAnnotations) is = sym (same_wide t u same) ∙ is
-wide_refused_moved rule t u same (wide_refusal.Unread (wide_error.InvalidExpression k n x)) (p, is, ends) = (p, sym (same_wide t u same) ∙ is, ends)
+wide_refused_moved rule t u same (wide_refusal.Unread (wide_error.InvalidExpression k n x)) is =
+    record { parsed = is.parsed; is_said = sym (same_wide t u same) ∙ is.is_said; end = is.end; unmended = is.unmended }
 wide_refused_moved rule t u same (wide_refusal.Unread wide_error.Memory) is = is
-wide_refused_moved rule t u same (wide_refusal.Uncompiled x) (told, parsed, said, compiles) = (told, parsed, said_moved (Wide rule) t u told parsed same said, compiles)
+wide_refused_moved rule t u same (wide_refusal.Uncompiled x) (told, parsed, wrapped, said, compiles) = (told, parsed, wrapped, said_moved (Wide rule) t u told parsed wrapped same said, compiles)
 wide_refused_moved rule t u same wide_refusal.Memory is = is
 
 module _ (d e : Documents) (same : SameReading d e) where
-  said_here : (told parsed : Policy) → IsSaid d.language d.policy told parsed → IsSaid e.language e.policy told parsed
-  said_here told parsed is = subst (λ (l : Language). IsSaid l e.policy told parsed) same.language (said_moved d.language d.policy e.policy told parsed same.policy is)
+  said_here : (told parsed : Policy) (wrapped : Bool) → IsSaid d.language d.policy told parsed wrapped → IsSaid e.language e.policy told parsed wrapped
+  said_here told parsed wrapped is =
+      subst (λ (l : Language). IsSaid l e.policy told parsed wrapped) same.language (said_moved d.language d.policy e.policy told parsed wrapped same.policy is)
 
-  policy_moved : IsPolicy d.language d.policy → IsPolicy e.language e.policy
-  policy_moved p = record { told = p.told; parsed = p.parsed; is_said = said_here p.told p.parsed p.is_said; trees = p.trees; compiles = p.compiles }
+  abbrev policy_moved : IsPolicy d.language d.policy → IsPolicy e.language e.policy
+  policy_moved p = record {
+    told = p.told;
+    parsed = p.parsed;
+    wrapped = p.wrapped;
+    is_said = said_here p.told p.parsed p.wrapped p.is_said;
+    trees = p.trees;
+    compiles = p.compiles;
+  }
 
   case_moved : Case d → Case e
   case_moved c = record {
-    policy = record {
-      told = c.policy.told;
-      parsed = c.policy.parsed;
-      is_said = said_here c.policy.told c.policy.parsed c.policy.is_said;
-      trees = c.policy.trees;
-      compiles = c.policy.compiles;
-    };
-    roots = c.roots;
+    policy = policy_moved c.policy;
+    own = c.own;
     are_given = sym same.values ∙ c.are_given;
+    roots = c.roots;
+    are_placed = c.are_placed;
+    fit = c.fit;
   }
+
+  too_large_moved : AreTooLarge d → AreTooLarge e
+  too_large_moved large =
+      record { policy = policy_moved large.policy; own = large.own; are_given = sym same.values ∙ large.are_given; beyond = large.beyond }
 
   -- if one has no response for this reason, neither has the other
   pub no_response_moved : (limits : Limits) (x : RunError) → HasNoResponse d limits x → HasNoResponse e limits x
   unfolding case_moved
   no_response_moved limits (PolicyRefused r) is = (sym same.language ∙ is.0, refused_moved d.policy e.policy (same_policy d.policy e.policy same.policy) r is.1)
-  no_response_moved limits ReviewRefused is = (policy_moved is.0, sym same.values ∙ is.1)
+  no_response_moved limits ReviewRefused (inl is) = inl (policy_moved is.0, sym same.values ∙ is.1)
+  no_response_moved limits ReviewRefused (inr is) = inr (too_large_moved is)
   no_response_moved limits NamespaceOrParamsRefused is = (policy_moved is.0, sym same.values ∙ is.1)
   no_response_moved limits OutOfSteps is = record { case = case_moved is.case; early = is.early }
   no_response_moved limits OverLimit is = record { case = case_moved is.case; beyond = is.beyond }

@@ -125,9 +125,10 @@ module _ (l : Language) where
     in_profile : l ≡ Profile → LeavesOutMessages p []
     refused : {rule : MessageRule} {text : List ℕ} (e : WideRefusal) → l ≡ Wide rule → IsJsonTextOf (compiled_document p.document) text
         → IsWideRefused rule text e → LeavesOutMessages p []
-    notes : {rule : MessageRule} {text : List ℕ} (told parsed : Policy) (left_out : Vec LeftOut Global) → l ≡ Wide rule
+    notes : {rule : MessageRule} {text : List ℕ} (told parsed : Policy) (wrapped : Bool) (left_out : Vec LeftOut Global) → l ≡ Wide rule
         → IsJsonTextOf (compiled_document p.document) text
-        → IsWidePolicy rule text (record { source = told; profile = parsed; left_out = left_out }) → LeavesOutMessages p left_out.items
+        → IsWidePolicy rule text (record { source = told; profile = parsed; left_out = left_out; wrapped = wrapped })
+        → LeavesOutMessages p left_out.items
 
   -- a policy that is opened, and what is left out of it
   pub record HasOpened (p : BoundPolicy) (lacks : Bool) (t : Standing) (notes : List LeftOut) : Type 0 where

@@ -21,6 +21,6 @@ returns-clause-finds c d of table =
 
 pub returns-clause-runs : goal.returns-clause-runs
 returns-clause-runs c d of image table =
-    of_one d _ _ _ _ _ of.0 image
+    of_one d _ _ _ _ _ _ of.0 image
     (c.findings_on.ensures.runs d of
     (table_due {S = Held} held_contents (Some d.review) d.namespace d.params c.in_ok-table.table (subst (IsTableOf d) c.in_ok-table.was table)))

@@ -24,6 +24,6 @@ returns-clause-finds c l policy of =
 
 pub returns-clause-runs : goal.returns-clause-runs
 returns-clause-runs c l policy of image =
-    of_one (documents_in l policy c.args.case.now.review.now c.args.namespace c.args.params) _ _ _ _ _ of.0 image
+    of_one (documents_in l policy c.args.case.now.review.now c.args.namespace c.args.params) _ _ _ _ _ _ of.0 image
     (c.findings_on.ensures.runs (documents_in l policy c.args.case.now.review.now c.args.namespace c.args.params) of
     (table_due {S = Contents} (λ v. v) (Some c.args.case.now.review.now) _ _ _ c.in_ok-table.ensures.table))

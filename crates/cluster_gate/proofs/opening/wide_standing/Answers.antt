@@ -15,7 +15,7 @@ returns-in_ok-standing_of-in-Ok c p is = record {
     of_policy = ((_, c.in-Ok.ensures.opens.is_said), c.in-Ok.ensures.opens.compiled);
     image = c.in-Ok.ensures.one;
   });
-  leaves = notes _ _ _ refl is c.in-Ok.ensures.opens.is_said;
+  leaves = notes _ _ _ _ refl is c.in-Ok.ensures.opens.is_said;
 }
 
 pub returns-in-Err-Unread : goal.returns-in-Err-Unread
