@@ -6,7 +6,7 @@ use Rattle.review_runner.proofs.Prelude.{start_of, started_on, Reply, Documents,
 use Rattle.review_runner.proofs.Prelude.{Assembled, ListingOutcome, WritesImage, CompiledFrom, file_from, opened}
 use Rattle.review_runner.proofs.Prelude.{opened_by, run_outcome, run_image_outcome, ReviewsHeld, review_outcome}
 use Rattle.review_runner.proofs.Prelude.{DocumentFiles, OrderOutcome, Refusal, file_refusal, FileError, Failed}
-use Rattle.review_runner.proofs.Prelude.{RunError, Contents, arith}
+use Rattle.review_runner.proofs.Prelude.{RunError, Contents, arith, inl, inr}
 use Rattle.loader.specs.Contents.{Image}
 use Rattle.loader.specs.declared.load_error.LoadError.TheVariants as load_error
 use Rattle.bpf_machine.specs.State.{State}
@@ -20,7 +20,7 @@ use Rattle.admission.specs.Reviews.{contents_given, uid_in}
 use Rattle.admission.specs.Endings.{NoLimitOfReads}
 use Rattle.admission.specs.Standing.{RunEnding, Images, RunAgrees, PolicyRunEnds, ending_by, has_stopped, out_of_reads, out_of_steps, steps_alone}
 use Rattle.admission.specs.declared.run_error.RunError.TheVariants as run_error
-use Rattle.admission.proofs.OneReview.{cases_once}
+use Rattle.admission.proofs.OneReview.{cases_once, profile_fits, profile_roots}
 use Rattle.admission.proofs.Said.{profile_said, profile_told}
 use Rattle.admission.specs.declared.language.Language.TheVariants.{Profile}
 use Rattle.bpf_machine.specs.State.{start_state}
@@ -98,14 +98,14 @@ pub run_of_review : NoLimitOfReads → (chosen : Images) (d : Documents) (n : �
     → ReviewRun chosen n d.policy d.review d.namespace d.params (λ v. last_status (due v))
 run_of_review unlimited chosen d n due profile has = record {
   policy = has.run.case.policy.parsed;
-  is_policy = profile_said d has.run.case.policy.told has.run.case.policy.parsed profile has.run.case.policy.is_said;
+  is_policy = profile_said d has.run.case.policy.told has.run.case.policy.parsed has.run.case.policy.wrapped profile has.run.case.policy.is_said;
   trees = has.run.case.policy.trees;
   compiles = has.run.case.policy.compiles;
   image = has.run.image;
   program = has.run.program;
   is_chosen = has.is_chosen;
   roots = has.run.case.roots;
-  are_given = has.run.case.are_given;
+  are_given = has.run.case.are_given ∙ ap (λ (r : Roots). Ok (started r)) (sym (profile_roots d has.run.case profile));
   verdict = decision has.run.case;
   is_verdict = refl;
   status =
@@ -193,16 +193,17 @@ module _ (chosen : Images) (rows : List Row) (old : Option FileSystem) where
   replied laws new d (Ok reply) profile hold reviews agrees same =
       let run = run_of_review laws.unlimited chosen d (steps_of rows) _ profile agrees in
       let own = reviews.case.policy in
-      let as_compiled = reviews.answer_is ∙ ap (λ (p : Policy). answer_of p (decision reviews.case) (uid_in d.review)) (profile_told d own.told own.parsed profile own.is_said) in
+      let as_compiled = reviews.answer_is ∙ ap (λ (p : Policy). answer_of p (decision reviews.case) (uid_in d.review)) (profile_told d own.told own.parsed own.wrapped profile own.is_said) in
       let due = moved laws.once d reviews.case agrees.run.case (λ p t r. reply ≡ answer_of p (decision_of p.failure_policy t r) (uid_in d.review)) as_compiled in
       subst (λ (r : Reply). Has new (codes "review") (Ok (answer_status r.allowed, r.response ++ 10 ∷ []))) (sym due)
       (subst (λ (n : ℕ). Has new (codes "review") (Ok (n, response_of run.policy run.verdict (uid_in d.review) ++ 10 ∷ [])))
       (status_is (is_allowed run.verdict.outcome)) (effect.given hold (effect.replied run) same))
   replied laws new d (Err (run_error.PolicyRefused e)) profile hold refused agrees same = effect.given hold (effect.no_policy {others = Some d.review ∷ d.namespace ∷ d.params ∷ []} refused.1) same
-  replied laws new d (Err run_error.ReviewRefused) profile hold both agrees same =
-      effect.given hold (effect.no_review (profile_said d both.0.told both.0.parsed profile both.0.is_said) both.0.compiles both.1) same
+  replied laws new d (Err run_error.ReviewRefused) profile hold (inl both) agrees same =
+      effect.given hold (effect.no_review (profile_said d both.0.told both.0.parsed both.0.wrapped profile both.0.is_said) both.0.compiles both.1) same
+  replied laws new d (Err run_error.ReviewRefused) profile hold (inr large) agrees same = absurd (profile_fits d profile large)
   replied laws new d (Err run_error.NamespaceOrParamsRefused) profile hold both agrees same =
-      effect.given hold (effect.no_review (profile_said d both.0.told both.0.parsed profile both.0.is_said) both.0.compiles both.1) same
+      effect.given hold (effect.no_review (profile_said d both.0.told both.0.parsed both.0.wrapped profile both.0.is_said) both.0.compiles both.1) same
   replied laws new d (Err run_error.OutOfSteps) profile hold unended agrees same =
       effect.given hold (effect.unended (run_of_review laws.unlimited chosen d (steps_of rows) _ profile agrees)
       (moved laws.once d unended.case agrees.run.case (λ p t r. steps_of rows < steps_per_visit * policy_work p.failure_policy t r) unended.early)) same

@@ -6,7 +6,7 @@ use Rattle.debugger.specs.declared.command.Command.TheVariants.{Verdict}
 use Rattle.review_runner.specs.Debugging as debugging
 use Rattle.admission.proofs.Decided.{compiled_length, few_findings}
 use Rattle.review_runner.proofs.ImageKept.{image_of_start}
-use Rattle.admission.proofs.OneReview.{roots_once}
+use Rattle.admission.proofs.OneReview.{plain_roots, profile_roots, roots_once}
 use Rattle.admission.proofs.Said.{profile_said}
 use Rattle.admission.specs.declared.language.Language.TheVariants.{Profile}
 use Rattle.review_runner.proofs.ToldLines as lines
@@ -46,14 +46,15 @@ version_is f t image values k program = ap (λ (i : loader.Image). version_numbe
 module _ (have : GivenHaveValues) (d : Documents) (run : PolicyRun d) (profile : d.language ≡ Profile) where
   has : HasValues run.case.roots (started run.case.roots)
   has =
-      let own = have (Some d.review) d.namespace d.params (started run.case.roots) run.case.are_given in
-      subst (λ (r : Roots). HasValues r (started run.case.roots)) (sym (roots_once run.case.roots own.roots own.are)) own.has
+      let own = have (Some d.review) d.namespace d.params (started run.case.own) run.case.are_given in
+      let same : run.case.roots ≡ own.roots = profile_roots d run.case profile ∙ roots_once run.case.own own.roots own.are in
+      subst (λ (r : Roots). HasValues r (started r)) (sym same) (subst (HasValues own.roots) own.are own.has)
 
   few : length (decision run.case).findings ≤ 64
   few =
       let trees = run.case.policy.trees in
       let many = compiled_length run.case.policy.parsed (Ok trees) trees run.case.policy.compiles refl in
-      omega (arith, few_findings run.case.policy.parsed.failure_policy trees run.case.roots, many, few_validations d.policy run.case.policy.parsed (profile_said d run.case.policy.told run.case.policy.parsed profile run.case.policy.is_said))
+      omega (arith, few_findings run.case.policy.parsed.failure_policy trees run.case.roots, many, few_validations d.policy run.case.policy.parsed (profile_said d run.case.policy.told run.case.policy.parsed run.case.policy.wrapped profile run.case.policy.is_said))
 
   told : (seen : List Line) → (session_state_after run seen).ended ≡ false → Decides run.case.policy.parsed.failure_policy run.case.policy.trees run.case.roots (started run.case.roots) (shown_after run seen) → TellsVerdict run seen
   told seen on (OutOfBudget is why) = TellsVerdict.over is why
@@ -75,8 +76,10 @@ module _ (have : GivenHaveValues) (d : Documents) (run : PolicyRun d) (profile :
   tells : (seen : List Line) → IsDecided run seen → TellsVerdict run seen
   tells seen is = told seen is.goes_on (decides seen is)
 
-starts : (d : Documents) (run : PolicyRun d) (file : List ℕ) → image_in file ≡ Ok run.image → start_of (Ok (held_with file d)) ≡ Ok (start run)
-starts d run file holds = ap (λ (r : Result loader.Image LoadError). started_on (opened_by r) (held_with file d)) holds ∙ ap (debugging.started run.image) run.case.are_given
+starts : (d : Documents) (run : PolicyRun d) (file : List ℕ) → run.case.policy.wrapped ≡ false → image_in file ≡ Ok run.image → start_of (Ok (held_with file d)) ≡ Ok (start run)
+starts d run file plain holds =
+    ap (λ (r : Result loader.Image LoadError). started_on (opened_by r) (held_with file d)) holds ∙ ap (debugging.started run.image) run.case.are_given
+    ∙ ap (λ (r : Roots). Ok (start_state run.image (started r))) (sym (plain_roots d run.case plain))
 
 pub verdict_is_told : GivenHaveValues → VerdictIsTold
 verdict_is_told have = record { starts = starts; tells = λ d run lines profile. tells have d run profile lines }

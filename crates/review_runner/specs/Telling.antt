@@ -81,6 +81,6 @@ module _ {d : Documents} (run : PolicyRun d) where
 
 -- this holds after any lines, with moves in both directions
 pub record VerdictIsTold : Type 0 where
-  pub starts : (d : Documents) (run : PolicyRun d) (file : List ℕ) → image_in file ≡ Ok run.image
+  pub starts : (d : Documents) (run : PolicyRun d) (file : List ℕ) → run.case.policy.wrapped ≡ false → image_in file ≡ Ok run.image
       → start_of (Ok (held_with file d)) ≡ Ok (start run)
   pub tells : (d : Documents) (run : PolicyRun d) (lines : List Line) → d.language ≡ Profile → IsDecided run lines → TellsVerdict run lines
