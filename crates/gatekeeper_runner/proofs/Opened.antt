@@ -23,7 +23,7 @@ untaken_by rule document (wide_refusal.Unread e) why = λ known name reading. re
 untaken_by rule document (wide_refusal.Uncompiled e) why = λ known name reading. refused_wide refl reading why
 
 is_policy : (p : PolicyFile) (g : NamedGate) → IsGateOf p g → IsPolicy p.language p.document
-is_policy p g of = record { told = g.gate.told; parsed = g.gate.policy; is_said = of.policy.0; trees = of.policy.1.trees; compiles = of.policy.1.compiles }
+is_policy p g of = record { told = g.gate.told; parsed = g.gate.policy; wrapped = g.gate.wrapped; is_said = of.policy.0; trees = of.policy.1.trees; compiles = of.policy.1.compiles }
 
 gates_more : (policies : List PolicyFile) (gates : List NamedGate) (policy : PolicyFile) (gate : NamedGate) → AreGates policies gates
     → IsGateOf policy gate → AreGates (policies ++ policy ∷ []) (gates ++ gate ∷ [])

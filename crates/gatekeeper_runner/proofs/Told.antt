@@ -19,7 +19,7 @@ module _ (language : Language) where
         record {
           text = stands.0.gate_of.text;
           has_text = stands.0.gate_of.has_text;
-          is_policy = record { told = gate.told; parsed = gate.policy; is_said = of.0; trees = of.1.trees; compiles = of.1.compiles };
+          is_policy = record { told = gate.told; parsed = gate.policy; wrapped = gate.wrapped; is_said = of.0; trees = of.1.trees; compiles = of.1.compiles };
           naming = stands.0.naming;
         },
         stands.1,
