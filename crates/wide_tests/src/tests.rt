@@ -3,6 +3,7 @@
 use std::alloc::{AllocError, Global};
 
 mod policies;
+mod tables;
 mod translations;
 mod trees;
 
