@@ -140,7 +140,7 @@ free_by : (b : Bool) (x n : List ℕ) → bytes_eq x n ≡ b → is_taken x ≡ 
 free_by false x n e h g = refl
 free_by true x n e h g = absurd (let same : x ≡ n = (bytes_decides x n).0 e in let other : is_taken n ≡ true = sym (ap is_taken same) ∙ h in cc)
 
-taken_differs : (x n : List ℕ) → is_taken x ≡ true → is_taken n ≡ false → bytes_eq x n ≡ false
+pub taken_differs : (x n : List ℕ) → is_taken x ≡ true → is_taken n ≡ false → bytes_eq x n ≡ false
 taken_differs x n h g = free_by (bytes_eq x n) x n refl h g
 
 free_differs_by : (b : Bool) (x n : List ℕ) → bytes_eq x n ≡ b → is_taken x ≡ false → is_taken n ≡ true → b ≡ false

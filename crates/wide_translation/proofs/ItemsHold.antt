@@ -34,14 +34,14 @@ abbrev item_outcome : ValueOrError → ℕ → Outcome
 item_outcome error n = failed
 item_outcome (value v) n = at v (int (pos n))
 
-join_nothing : (is : Items) → items_join is no_items ≡ is
+pub join_nothing : (is : Items) → items_join is no_items ≡ is
 join_nothing no_items = refl
 join_nothing (item v more) = ap (item v) (join_nothing more)
 
 below : (n m : ℕ) → n < m → int_lt (pos n) (pos m) ≡ true
 below n m h = grind (arith, h)
 
-not_below : (n m : ℕ) → m ≤ n → int_lt (pos n) (pos m) ≡ false
+pub not_below : (n m : ℕ) → m ≤ n → int_lt (pos n) (pos m) ≡ false
 not_below n m h = grind (arith, h)
 
 inside_by : (xs : List Value) (n : ℕ)
@@ -50,14 +50,14 @@ inside_by : (xs : List Value) (n : ℕ)
 inside_by xs n (inl found) = below n (length xs) found.1 ∙ sym (ap is_some found.2)
 inside_by xs n (inr past) = not_below n (length xs) past.0 ∙ sym (ap is_some past.1)
 
-inside : (xs : List Value) (n : ℕ) → int_lt (pos n) (pos (length xs)) ≡ is_some (slice_get xs n)
+pub inside : (xs : List Value) (n : ℕ) → int_lt (pos n) (pos (length xs)) ≡ is_some (slice_get xs n)
 inside xs n = inside_by xs n (slice_get_cases xs n).1
 
-guard_of_option : (o : Option Value) → guard_part (optional_of o) ≡ value (boolean (is_some o))
+pub guard_of_option : (o : Option Value) → guard_part (optional_of o) ≡ value (boolean (is_some o))
 guard_of_option None = refl
 guard_of_option (Some v) = refl
 
-value_of_option : (o : Option Value) → value_or_error o ≡ value_part (optional_of o)
+pub value_of_option : (o : Option Value) → value_or_error o ≡ value_part (optional_of o)
 value_of_option None = refl
 value_of_option (Some v) = refl
 
@@ -97,7 +97,7 @@ item_list_means n a env h = guarded_means (present_item_tree a n) (item_tree a n
 item_list_held : (n : ℕ) (v : Value) (env : Environment) → meaning (item_list_tree held n) (bind held_name v env) ≡ list_part (at v (int (pos n)))
 item_list_held n v env = item_list_means n held (bind held_name v env) held_is_no_variables ∙ ap (λ x. list_part (item_outcome x n)) (held_is v env)
 
-option_kind : (o : Option Value) → IsOptionalOf kind.Dyn (optional_of o)
+pub option_kind : (o : Option Value) → IsOptionalOf kind.Dyn (optional_of o)
 option_kind (Some v) = refl
 option_kind None = tt
 

@@ -2,6 +2,7 @@
 pub mod Environments
 pub mod Steps
 pub mod FieldsHold
+pub mod Kept
 pub mod OperatorsHold
 pub mod EntriesHold
 pub mod FormsHold
@@ -15,6 +16,8 @@ pub mod PairForms
 pub mod PairLists
 pub mod PairRanges
 pub mod PairFolds
+pub mod KeyValues
+pub mod KeysHold
 pub mod NoTable
 pub mod Same
 pub mod Policies

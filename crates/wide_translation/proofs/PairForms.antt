@@ -81,11 +81,14 @@ pairs_mean y a env t h =
     macro_means plain_macro.Map index_name a (pair_tree a) env
     ∙ (λ j. over_items plain_macro.Map (λ w. list_literal (here_is w env j ∷ index_of (h w j) (here_is w env j) ∷ [])) (range_of (meaning a env)))
 
-is_list_means : (y : ValueOrError) → MeansOver y is_list_tree is_list
+pub is_list_is : (a : Tree) (env : Environment) → meaning (is_list_tree a) env ≡ is_list (meaning a env)
 unfolding meaning
-is_list_means y a env t h =
+is_list_is a env =
     (λ j. equal_of (macro_means plain_macro.Map index_name a here env j) (meaning a env))
     ∙ (λ j. equal_of (over_items plain_macro.Map (λ w. here_is w env j) (range_of (meaning a env))) (meaning a env))
+
+is_list_means : (y : ValueOrError) → MeansOver y is_list_tree is_list
+is_list_means y a env t h = is_list_is a env
 
 pub items_mean : (y : ValueOrError) → MeansOver y items_tree items_in
 unfolding meaning

@@ -25,14 +25,18 @@ use Rattle.wide_kinds.specs.declared.kind.ValueKind.TheVariants as kind
 use Rattle.wide_kinds.specs.Fitting.{FitsKind, IsOfKind, IsOptionalOf}
 use Rattle.wide_translation.specs.Carried.{Carried, plain, guarded, listed, Translation, taken, refused}
 use Rattle.wide_translation.specs.Forms.{macro_tree, filter_map_tree}
-use Rattle.wide_translation.specs.Holds.{IsPlain, Carries, WideHolds}
+use Rattle.wide_translation.specs.ComputedIndices.{key_of_list, key_carried}
+use Rattle.wide_translation.specs.Holds.{IsPlain, IsListed, Carries, WideHolds}
 use Rattle.wide_translation.specs.Indexed.{ForEach}
 use Rattle.wide_translation.proofs.EachItem.{each_then, over_same, where_same}
-use Rattle.wide_translation.specs.Translated.{plain_index, text_index, count_index, index_carried, macro_kind}
+use Rattle.wide_translation.specs.Names.{held_name, second_name}
+use Rattle.wide_translation.specs.Translated.{value_index, plain_index, text_index, count_index, index_carried, macro_kind}
 use Rattle.wide_translation.specs.Translated.{field_carried, on_plain, with_plain}
 use Rattle.wide_translation.proofs.FieldsHold.{plain_holds, on_plain_holds, field_holds}
 use Rattle.wide_translation.specs.Forms.{guarded_tree}
 use Rattle.wide_translation.proofs.ItemsHold.{item_holds, item_of_optional}
+use Rattle.wide_translation.proofs.Kept.{Keeps, on_plain_kept}
+use Rattle.wide_translation.proofs.KeysHold.{value_key_holds, list_key_holds}
 use Rattle.wide_translation.proofs.Steps.{guarded_means}
 use Rattle.wide_translation.proofs.Steps.{macro_means, filter_map_means}
 
@@ -65,11 +69,30 @@ one_index k j a b x y env h i =
     subst (λ (o : Outcome). IsPlain kind.Dyn (tree.index a b) o env) (index_same k j x y h.kind i.kind)
     (plain_holds kind.Dyn (tree.index a b) (index_of (plain_part x) (plain_part y)) env (λ l. index_of (h.means l) (i.means l)) (any_kind (index_of (plain_part x) (plain_part y))) refl)
 
-index_by : (o : Access) (c d : Carried) (x y : Outcome) (env : Environment) → Carries c x env → Carries d y env → WideHolds (plain_index o c d) (index_in o x y) env
-index_by Optional c d x y env h i = tt
-index_by Plain c d x y env h i =
+value_index_holds : (c d : Carried) (x y : Outcome) (env : Environment) → Carries c x env → Carries d y env → WideHolds (value_index c d) (index_in Plain x y) env
+value_index_holds c d x y env h i =
     on_plain_holds c (λ k a. on_plain d (λ j b. taken (plain kind.Dyn (tree.index a b)))) x (index_in Plain x y) env h
     (λ k a r. on_plain_holds d (λ j b. taken (plain kind.Dyn (tree.index a b))) y (index_in Plain x y) env i (λ j b q. one_index k j a b x y env r q))
+
+-- an index of an optional value, for each form of the index
+list_index_holds : (o : Access) (k : ValueKind) (l : Tree) (d : Carried) (x y : Outcome) (env : Environment) → IsListed k l x env → Carries d y env → Keeps held_name d y env
+    → WideHolds (on_plain d (λ j b. taken (key_of_list k j l b))) (index_in o x y) env
+list_index_holds o k l d x y env h i r =
+    on_plain_kept held_name d (λ j b. taken (key_of_list k j l b)) y (index_in o x y) env i r (λ j b p q. list_key_holds o k j l b x y env h p q)
+
+-- any index: the operand carries its outcome where the second name of the translation has a value, and the index where
+-- the first name has one
+index_by : (o : Access) (c d : Carried) (x y : Outcome) (env : Environment) → Carries c x env → Keeps second_name c x env → Carries d y env → Keeps held_name d y env
+    → WideHolds (plain_index o c d) (index_in o x y) env
+index_by Plain (plain k t) d x y env h s i r = value_index_holds (plain k t) d x y env h i
+index_by Optional (plain k t) d x y env h s i r =
+    on_plain_kept held_name d (λ j b. taken (key_carried (plain k t) j b)) y (index_in Optional x y) env i r (λ j b p q. value_key_holds k j t b x y env h s p q)
+index_by Plain (guarded k g t) d x y env h s i r =
+    list_index_holds Plain k (guarded_tree g t) d x y env (record { list = guarded_means g t x env h.guard h.value; kind = h.kind }) i r
+index_by Optional (guarded k g t) d x y env h s i r =
+    list_index_holds Optional k (guarded_tree g t) d x y env (record { list = guarded_means g t x env h.guard h.value; kind = h.kind }) i r
+index_by Plain (listed k l) d x y env h s i r = list_index_holds Plain k l d x y env h i r
+index_by Optional (listed k l) d x y env h s i r = list_index_holds Optional k l d x y env h i r
 
 at_text : (v : Value) (f : List ℕ) → sel v f ≡ at v (text f)
 at_text null f = refl
@@ -94,7 +117,7 @@ index_of_optional o k (of_value v) f h = absurd h
 -- an index by a text literal
 text_index_holds : (f : List ℕ) (o : Access) (c d : Carried) (x : Outcome) (env : Environment) → Carries c x env → Carries d (of_value (text f)) env
     → WideHolds (text_index f o c d) (index_in o x (of_value (text f))) env
-text_index_holds f Plain (plain k t) d x env h i = index_by Plain (plain k t) d x (of_value (text f)) env h i
+text_index_holds f Plain (plain k t) d x env h i = value_index_holds (plain k t) d x (of_value (text f)) env h i
 text_index_holds f Optional (plain k t) d x env h i =
     subst (λ (y : Outcome). Carries (field_carried Optional f (plain k t)) y env) (optional_index x f) (field_holds Optional f (plain k t) x env h)
 text_index_holds f Plain (guarded k g t) d x env h i =
@@ -114,7 +137,7 @@ IsText None y = ⊤
 -- an index by an int literal of at least 0
 count_holds : (n : ℕ) (o : Access) (c d : Carried) (x : Outcome) (env : Environment) → Carries c x env → Carries d (of_value (int (pos n))) env
     → WideHolds (count_index n o c d) (index_in o x (of_value (int (pos n)))) env
-count_holds n Plain (plain k t) d x env h i = index_by Plain (plain k t) d x (of_value (int (pos n))) env h i
+count_holds n Plain (plain k t) d x env h i = value_index_holds (plain k t) d x (of_value (int (pos n))) env h i
 count_holds n Plain (guarded k g t) d x env h i =
     item_of_optional n k (guarded_tree g t) x env (record { list = guarded_means g t x env h.guard h.value; kind = h.kind })
 count_holds n Plain (listed k l) d x env h i = item_of_optional n k l x env h
@@ -127,15 +150,15 @@ abbrev pub IsCount : Option ℕ → Outcome → Type 0
 IsCount (Some n) y = y ≡ of_value (int (pos n))
 IsCount None y = ⊤
 
-pub index_holds : (l : Option (List ℕ)) (m : Option ℕ) (o : Access) (c d : Carried) (x y : Outcome) (env : Environment) → IsText l y → IsCount m y → Carries c x env → Carries d y env
-    → WideHolds (index_carried l m o c d) (index_in o x y) env
-index_holds (Some f) m o c d x y env e g h i =
+pub index_holds : (l : Option (List ℕ)) (m : Option ℕ) (o : Access) (c d : Carried) (x y : Outcome) (env : Environment) → IsText l y → IsCount m y → Carries c x env → Keeps second_name c x env
+    → Carries d y env → Keeps held_name d y env → WideHolds (index_carried l m o c d) (index_in o x y) env
+index_holds (Some f) m o c d x y env e g h s i r =
     subst (λ (z : Outcome). WideHolds (text_index f o c d) (index_in o x z) env) (sym e)
     (text_index_holds f o c d x env h (subst (λ (z : Outcome). Carries d z env) e i))
-index_holds None (Some n) o c d x y env e g h i =
+index_holds None (Some n) o c d x y env e g h s i r =
     subst (λ (z : Outcome). WideHolds (count_index n o c d) (index_in o x z) env) (sym g)
     (count_holds n o c d x env h (subst (λ (z : Outcome). Carries d z env) g i))
-index_holds None None o c d x y env e g h i = index_by o c d x y env h i
+index_holds None None o c d x y env e g h s i r = index_by o c d x y env h s i r
 
 -- ---- macros
 

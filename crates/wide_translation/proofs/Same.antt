@@ -28,7 +28,7 @@ use Rattle.wide_translation.specs.Carried.{plain, OptionalValue, TakenName, Unsi
 use Rattle.wide_translation.specs.Forms.{filter_map_tree}
 use Rattle.wide_translation.specs.Holds.{WideHolds, WideStandsFor}
 use Rattle.wide_translation.specs.Laws.{TranslationMeansTheSame}
-use Rattle.wide_translation.specs.Names.{held_name, index_name, is_taken}
+use Rattle.wide_translation.specs.Names.{held_name, index_name, second_name, is_taken}
 use Rattle.wide_translation.specs.Indexed.{ForEach, ForPresent}
 unfoldable use Rattle.wide_translation.specs.Indexed.{Indexed, AllIndexed, ItemsIndexed, EntriesIndexed}
 use Rattle.wide_translation.specs.Pairs.{PairUse, values_only, keys_only, both, table_tree, pair_use, pair_binder}
@@ -44,6 +44,7 @@ use Rattle.wide_translation.proofs.EachItem.{each_later}
 use Rattle.wide_translation.proofs.Environments.{root_free, both_bound, held_bound, held_is_no_root, fresh_bound}
 use Rattle.wide_translation.proofs.Environments.{index_is_fresh, index_is_no_root, pair_bound, binder_is_no_root}
 use Rattle.wide_translation.proofs.Environments.{picked, table_stays}
+use Rattle.wide_translation.proofs.Kept.{with_kept, second_bound, second_is_no_root}
 use Rattle.wide_translation.proofs.NoTable.{indexed}
 use Rattle.wide_translation.proofs.FieldsHold.{plain_holds, with_holds, with_plain_holds, on_list_holds, root_holds}
 use Rattle.wide_translation.proofs.FieldsHold.{name_holds, selected_holds, has_holds}
@@ -213,9 +214,11 @@ module _ (others : Wide → WideEnvironment → Outcome) where
       same (wide.index a o k) s env env' r t g =
           let x : Outcome = wide_meaning others a env in
           let z : Outcome = wide_meaning others k env in
-          with_holds (translated s a) (λ c. with_carried (translated s k) (λ d. index_carried (text_literal k) (count_literal k) o c d)) x (index_in o x z) env' (same a s env env' r t (λ w. (g w).0))
-          (λ c h. with_holds (translated s k) (λ d. index_carried (text_literal k) (count_literal k) o c d) z (index_in o x z) env' (same k s env env' r t (λ w. (g w).1))
-          (λ d i. index_holds (text_literal k) (count_literal k) o c d x z env' (is_text k env) (is_count k env) h i))
+          with_kept second_name (translated s a) (λ c. with_carried (translated s k) (λ d. index_carried (text_literal k) (count_literal k) o c d)) x (index_in o x z) env' (same a s env env' r t (λ w. (g w).0))
+          (λ v. same a s env (bind second_name v env') (second_bound s v env env' r) (table_stays second_name v env' second_is_no_root ∙ t) (λ w. (g w).0))
+          (λ c h p. with_kept held_name (translated s k) (λ d. index_carried (text_literal k) (count_literal k) o c d) z (index_in o x z) env' (same k s env env' r t (λ w. (g w).1))
+          (λ v. same k s env (bind held_name v env') (held_bound s v env env' r) (table_stays held_name v env' held_is_no_root ∙ t) (λ w. (g w).1))
+          (λ d i q. index_holds (text_literal k) (count_literal k) o c d x z env' (is_text k env) (is_count k env) h p i q))
       same (wide.has a f) s env env' r t g =
           let x : Outcome = wide_meaning others a env in
           with_holds (translated s a) (λ c. taken (plain kind.Bool (has_carried f c))) x (has_in x f) env' (same a s env env' r t g) (λ c h. has_holds f c x env' h)

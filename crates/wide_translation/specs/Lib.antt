@@ -11,6 +11,7 @@ pub mod Segments
 pub mod Uses
 pub mod Pairs
 pub mod Lists
+pub mod ComputedIndices
 pub mod Translated
 pub mod Keys
 pub mod Holds
@@ -20,4 +21,5 @@ pub mod Placed
 pub mod Laws
 pub mod Written
 pub mod FormRows
+pub mod IndexRows
 pub mod Rows

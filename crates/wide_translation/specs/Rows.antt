@@ -11,6 +11,7 @@ use Rattle.wide_meaning.specs.Written.{num, str, yes, name, dot, maybe, maybe_it
 use Rattle.wide_meaning.specs.Written.{object_spec}
 use Rattle.wide_translation.specs.Carried.{UnknownName, OptionalValue, TakenName, UnsignedInt}
 use Rattle.wide_translation.specs.FormRows.{FormRowsHold}
+use Rattle.wide_translation.specs.IndexRows.{IndexRowsHold}
 use Rattle.wide_translation.specs.Written.{Becomes, BecomesInCondition, BecomesWithVariables, WideIsRefused, plain_spec, plain_field, is_there}
 use Rattle.wide_translation.specs.Written.{field_or_nothing}
 
@@ -68,3 +69,5 @@ pub record TranslationRowsHold : Type 0 where
       (plain.call "size" (binary Add (plain.dot (plain.name "variables") "l") (plain.list_literal []) ∷ [])))
   -- macros with two names, lists and optional entries
   pub forms : FormRowsHold
+  -- computed indices
+  pub indices : IndexRowsHold

@@ -35,7 +35,7 @@ use Rattle.wide_kinds.specs.declared.kind.ValueKind.{ValueKind}
 use Rattle.wide_kinds.specs.declared.kind.ValueKind.TheVariants as kind
 use Rattle.wide_kinds.specs.Kinds.{literal_kind, unary_kind, binary_kind, joined_kind}
 use Rattle.wide_translation.specs.Carried.{Carried, plain, guarded, listed, UnknownName, OptionalValue, TakenName}
-use Rattle.wide_translation.specs.Carried.{UnsignedInt, Unsupported, Translation, taken, refused}
+use Rattle.wide_translation.specs.Carried.{UnsignedInt, Translation, taken, refused}
 use Rattle.wide_translation.specs.Forms.{empty_tree, one_tree, call_tree, macro_tree, filter_map_tree, first_tree}
 use Rattle.wide_translation.specs.Forms.{let_tree, held, access_tree, has_any_tree, present_tree, field_list_tree, guarded_tree}
 use Rattle.wide_translation.specs.Forms.{flat_tree, is_below_tree, present_item_tree, item_tree, item_list_tree, is_empty_tree}
@@ -48,6 +48,7 @@ pub use Rattle.wide_translation.specs.Parts.{pairs, no_pairs, entries_push, map_
 pub use Rattle.wide_translation.specs.Parts.{keyed_more, entry_more, list_translation, map_translation}
 use Rattle.wide_translation.specs.Lists.{second, first_list_tree, last_list_tree, extreme_tree, contained_tree}
 use Rattle.wide_translation.specs.Lists.{meeting_tree, equivalent_tree, sets_translation}
+use Rattle.wide_translation.specs.ComputedIndices.{key_carried}
 use Rattle.wide_translation.specs.Names.{held_name, is_taken}
 use Rattle.wide_translation.specs.Scope.{WideScope, Place, itself, part, unused, within, is_hidden}
 use Rattle.wide_translation.specs.Uses.{uses}
@@ -278,10 +279,14 @@ abbrev pub text_literal : Wide → Option (List ℕ)
 text_literal (wide.literal (tree.text s)) = Some s
 text_literal _ = None
 
--- an index of a value; an optional one is translated only if it is a text or int literal
+-- an index of a value, without a question mark
+abbrev pub value_index : Carried → Carried → Translation
+value_index c d = on_plain c (λ k a. on_plain d (λ j b. taken (plain kind.Dyn (tree.index a b))))
+
+-- an index; all but that is one as an optional value
 abbrev pub plain_index : Access → Carried → Carried → Translation
-plain_index Plain c d = on_plain c (λ k a. on_plain d (λ j b. taken (plain kind.Dyn (tree.index a b))))
-plain_index Optional c d = refused Unsupported
+plain_index Plain (plain k t) d = value_index (plain k t) d
+plain_index o c d = on_plain d (λ j b. taken (key_carried c j b))
 
 -- an index by a text literal is a field, but for `e['f']` of a value
 abbrev pub text_index : List ℕ → Access → Carried → Carried → Translation

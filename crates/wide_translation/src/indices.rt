@@ -5,18 +5,19 @@ ghost use Rattle.cel_reader.specs.Tree as node;
 ghost use Rattle.cel_reader.specs.Tree.{view};
 ghost use Rattle.wide_kinds.specs.declared.kind.ValueKind.TheVariants as kinds;
 ghost use Rattle.wide_reader.specs.Tree as wide;
-ghost use Rattle.wide_reader.specs.declared.wide.Access.TheVariants as accesses;
 ghost use Rattle.wide_translation.specs.Carried.{OptionalValue, plain, refused, taken};
+ghost use Rattle.wide_translation.specs.ComputedIndices.{key_carried};
 ghost use Rattle.wide_translation.specs.Declarations.{ReturnsCarried, carried_view};
 ghost use Rattle.wide_translation.specs.Forms as forms;
 ghost use Rattle.wide_translation.specs.Keys as keys;
 ghost use Rattle.wide_translation.specs.Keys.{IsNoLiteralKey};
+ghost use Rattle.wide_translation.specs.Parts.{on_plain};
 ghost use Rattle.wide_translation.specs.Translated as specs;
 
 use crate::carried::{Carried, value_of};
 use crate::names::HELD;
 use crate::translation_error::TranslationError;
-use crate::{build, built, fields, presence, together};
+use crate::{build, built, computed_indices, fields, presence, together};
 use cel_reader::{Expr, Literal};
 use std::alloc::{AllocError, Global};
 use wide_kinds::ValueKind;
@@ -24,7 +25,7 @@ use wide_reader::{Access, Wide};
 
 /// The trees of an operand and an index that are both values.
 fn operands(of: Carried, key: Carried) -> Option<(Expr, Expr)>
-    ensures { let t = specs.plain_index accesses.Plain (carried_view of) (carried_view key) in MatchOption result (t ≡ refused OptionalValue) (λ p. t ≡ taken (plain kinds.Dyn (node.index (view p.0) (view p.1)))) }
+    ensures { let t = specs.value_index (carried_view of) (carried_view key) in MatchOption result (t ≡ refused OptionalValue) (λ p. t ≡ taken (plain kinds.Dyn (node.index (view p.0) (view p.1)))) }
 {
     let Some((_, first)) = value_of(of) else {
         drop(key);
@@ -39,7 +40,7 @@ fn operands(of: Carried, key: Carried) -> Option<(Expr, Expr)>
 
 /// An index of a value, without a question mark.
 fn value_index(alloc: Global, of: Carried, key: Carried) -> Result<Carried, TranslationError>
-    ensures { ReturnsCarried (specs.plain_index accesses.Plain (carried_view of) (carried_view key)) result }
+    ensures { ReturnsCarried (specs.value_index (carried_view of) (carried_view key)) result }
 {
     let Some((first, second)) = operands(of, key) else {
         return Err(TranslationError::OptionalValue);
@@ -48,23 +49,15 @@ fn value_index(alloc: Global, of: Carried, key: Carried) -> Result<Carried, Tran
     Ok(Carried::Plain(ValueKind::Dyn, tree))
 }
 
-/// An index of a value.
-fn plain_index(
-    alloc: Global,
-    access: Access,
-    of: Carried,
-    key: Carried,
-) -> Result<Carried, TranslationError>
-    ensures { ReturnsCarried (specs.plain_index access (carried_view of) (carried_view key)) result }
+/// An index as an optional value.
+fn optional_index(alloc: Global, of: Carried, key: Carried) -> Result<Carried, TranslationError>
+    ensures { ReturnsCarried (on_plain (carried_view key) (λ j b. taken (key_carried (carried_view of) j b))) result }
 {
-    match access {
-        Access::Plain => value_index(alloc, of, key),
-        Access::Optional => {
-            drop(of);
-            drop(key);
-            Err(TranslationError::Unsupported)
-        }
-    }
+    let Some((kind, at)) = value_of(key) else {
+        drop(of);
+        return Err(TranslationError::OptionalValue);
+    };
+    Ok(computed_indices::key(alloc, of, kind, at)?)
 }
 
 /// Whether an index without a question mark is that of a value.
@@ -75,6 +68,22 @@ fn is_index_of_value(access: Access, of: &Carried) -> bool
         Access::Plain => matches!(of, Carried::Plain(_, _)),
         Access::Optional => false,
     }
+}
+
+/// An index: a value, or an optional value.
+#[tactic(auto, using(crate::proofs::IndexForms::index_of_value, crate::proofs::IndexForms::index_of_key))]
+fn plain_index(
+    alloc: Global,
+    access: Access,
+    of: Carried,
+    key: Carried,
+) -> Result<Carried, TranslationError>
+    ensures { ReturnsCarried (specs.plain_index access (carried_view of) (carried_view key)) result }
+{
+    if is_index_of_value(access, &of) {
+        return value_index(alloc, of, key);
+    }
+    optional_index(alloc, of, key)
 }
 
 /// An index that is a field.

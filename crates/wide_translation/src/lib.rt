@@ -8,6 +8,7 @@ mod carried;
 mod composed;
 mod composed_calls;
 mod composed_macros;
+mod computed_indices;
 mod conversions;
 mod copying;
 mod entries;

@@ -67,7 +67,7 @@ fn pairs(alloc: Global, of: &Expr) -> Result<Expr, AllocError>
 }
 
 /// Whether a list or a map is a list.
-fn is_list(alloc: Global, of: &Expr) -> Result<Expr, AllocError>
+pub(crate) fn is_list(alloc: Global, of: &Expr) -> Result<Expr, AllocError>
     ensures { IfOk result (λ e. view e ≡ specs.is_list_tree (view of.now)) }
 {
     let range_items = mapped(alloc, copy(alloc, of), here(alloc));

@@ -48,7 +48,7 @@ fn has_any(alloc: Global, of: &Expr, field: &str) -> Built
 }
 
 /// A comparison of an expression with null.
-fn null_test(alloc: Global, operator: BinaryOperator, of: &Expr) -> Built
+pub(crate) fn null_test(alloc: Global, operator: BinaryOperator, of: &Expr) -> Built
     ensures { IfOk result (λ e. view e ≡ node.binary operator (view of.now) (node.literal node.null)) }
 {
     let null = Expr::Literal(Literal::Null);

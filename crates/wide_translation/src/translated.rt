@@ -55,8 +55,9 @@ fn finished(alloc: Global, of: Carried) -> Result<Translated, AllocError>
 /// The fault of the first part, from left to right, that is not translated: `UnknownName` for a name, a function or a
 /// method that has no meaning here, `OptionalValue` for an optional value where a value is needed and the other way
 /// round, `TakenName` for an iteration name that the translation needs, `UnsignedInt` for an unsigned int that is no
-/// operand of a comparison or takes more than 63 bits, `Unsupported` for a form that is not translated. `Memory` if an
-/// allocation fails.
+/// operand of a comparison or takes more than 63 bits, `NeedsIndices` for a macro with two names that uses the indices of
+/// a list without a table of them, `OptionalEntry` for an optional entry whose key is no text literal and for more than
+/// three of them in a map. `Memory` if an allocation fails.
 #[tactic(auto, using(crate::proofs::Finished::finished_means))]
 pub fn translate(
     alloc: Global,

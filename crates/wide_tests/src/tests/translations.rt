@@ -38,6 +38,14 @@ sets.intersects(object.a, object.b)¦[object.a + []].map(celbpf_a, [object.b + [
 has(variables.m.f)¦has(variables.m.f)
 variables.m[?'a-b'].hasValue()¦has(variables.m.a) ? 'a-b' in variables.m : 'a-b' in variables.m
 variables.l[?0].hasValue()¦0 < size(variables.l + [])
+object.m[?object.k].hasValue()¦object.m == null ? string(object.k) != string(object.k) : object.m.map(celbpf_i, celbpf_i) == object.m ? (object.k < size(object.m) ? 0 <= object.k : false) : object.k in object.m
+object.spec.args[?0].orValue('')¦(object.spec.args == null ? false : 0 < size(object.spec.args + [])) ? object.spec.args[0] : ''
+object.l[?-1].hasValue()¦object.l == null ? false : (-1 < size(object.l + []) ? 0 <= -1 : false)
+object.l[?size(object.l) - 1].value()¦[size(object.l) - 1].map(celbpf_b, (object.l == null ? string(celbpf_b) != string(celbpf_b) : (celbpf_b < size(object.l + []) ? 0 <= celbpf_b : false)) ? [object.l[celbpf_b]] : [])[0][0]
+variables.m[?object.k].orValue(1)¦object.k in variables.m ? variables.m[object.k] : 1
+variables.l[?object.k].hasValue()¦object.k < size(variables.l) ? 0 <= object.k : false
+variables.o[?'a' + object.k]¦(variables.o.map(celbpf_a, ['a' + object.k].map(celbpf_b, (celbpf_a == null ? string(celbpf_b) != string(celbpf_b) : (has(celbpf_a.a) ? celbpf_b in celbpf_a : celbpf_b in celbpf_a)) ? [celbpf_a[celbpf_b]] : [])[0]) + [[]])[0]
+object.?m[object.k].hasValue()¦((object != null && has(object.m) ? [object.m] : []).map(celbpf_a, (celbpf_a == null ? string(object.k) != string(object.k) : celbpf_a.map(celbpf_i, celbpf_i) == celbpf_a ? (object.k < size(celbpf_a) ? 0 <= object.k : false) : object.k in celbpf_a) ? [celbpf_a[object.k]] : []) + [[]])[0] != []
 {'a': 1, ?'b': variables.o}¦variables.o != [] ? {'a': 1, 'b': variables.o[0]} : {'a': 1}
 variables.l.first()¦[variables.l + []].map(celbpf_a, celbpf_a == [] ? [] : [celbpf_a[0]])[0]
 variables.l.last()¦[variables.l + []].map(celbpf_a, celbpf_a == [] ? [] : [celbpf_a[size(celbpf_a) - 1]])[0]
@@ -57,7 +65,7 @@ variables.none¦none is not supported here
 object.?a + 1¦an optional value cannot be used here
 object.l.all(object, true)¦object cannot be an iteration name here
 1u + 1¦this unsigned int is not supported here
-object.m[?object.k]¦this form is not supported here
+object.m[?object.?k]¦an optional value cannot be used here
 object.m.all(k, v, k != v)¦the first name of this macro needs tables
 object.m.all(k, celbpf_x, true)¦celbpf_x cannot be an iteration name here
 {?object.t: object.?a}¦this optional entry is not supported here
