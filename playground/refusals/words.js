@@ -66,7 +66,7 @@ function numberTold({ begin, end }, text) {
  * @param {Found} found @returns {Told} */
 function optionalTold({ piece }) {
   if (!piece) return ["its result is an optional value", AS_VALUE];
-  if (piece.form === "index") return ["an optional value is indexed by what is no literal", "`k in o.orValue({}) ? o.orValue({})[k] : ..`"];
+  if (piece.form === "index") return ["what is between `[` and `]` is an optional value", AS_VALUE];
   if (piece.form === "method" && (piece.name === "or" || piece.name === "orValue")) {
     const wanted = piece.name === "or" ? "an optional value" : "a value, and no optional one,";
     return [`\`${piece.name}\` needs ${wanted} between its brackets`, "`or` with an optional value, `orValue` with another"];
@@ -125,6 +125,5 @@ function formTold({ piece }) {
     const hint = `\`m.${word}(k, ..)\` of a map, with \`m[k]\` for the value, or \`l.${word}(x, ..)\` of a list, whose items have no index`;
     return [`\`${piece.name.split(" ")[0]}\` may be used only if the range is known to be a map`, hint];
   }
-  if (piece && piece.form === "index") return ["an optional index is a text or an int of at least 0, written out", "`k in e ? e[k] : ..`"];
   return [meaning("W5"), ""];
 }

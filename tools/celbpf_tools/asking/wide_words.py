@@ -49,7 +49,7 @@ def optional_told(found: Found, _: str) -> tuple[str, str]:
     if piece is None:
         return "its result is an optional value", AS_VALUE
     if piece.form == "index":
-        return "an optional value is indexed by what is no literal", "`k in o.orValue({}) ? o.orValue({})[k] : ..`"
+        return "what is between `[` and `]` is an optional value", AS_VALUE
     if piece.form == "method" and piece.name in ("or", "orValue"):
         wanted = "an optional value" if piece.name == "or" else "a value, and no optional one,"
         return f"`{piece.name}` needs {wanted} between its brackets", "`or` with an optional value, `orValue` with another"
@@ -113,8 +113,6 @@ def form_told(found: Found) -> tuple[str, str]:
         word = OF_ONE_NAME.get(piece.word, piece.word)
         hint = f"`m.{word}(k, ..)` of a map, with `m[k]` for the value, or `l.{word}(x, ..)` of a list, whose items have no index"
         return f"`{piece.name.split()[0]}` may be used only if the range is known to be a map", hint
-    if piece.form == "index":
-        return "an optional index is a text or an int of at least 0, written out", "`k in e ? e[k] : ..`"
     return MEANINGS["W5"], ""
 
 

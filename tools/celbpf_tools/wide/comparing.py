@@ -21,7 +21,7 @@ REFUSED_START = 3
 POLICIES = {"fail": "Fail", "ignore": "Ignore"}
 # a policy that is too large, also by the literal of a result, and a program that is stopped
 TOO_LARGE = re.compile(r"\b(?:G[1-4]|K6 validation [0-9]+ P[56])\b")
-# an expression of the wide language that the gatekeeper does not translate yet; W4 is an index of an optional value
+# an expression of the wide language that the gatekeeper does not translate yet; for W4 the model may have Y2
 NOT_YET = re.compile(r"\bW[45]\b")
 STOPPED = ("N4", "N5", "N7", "N8")
 PLACE = re.compile(r"\b(?:at|byte) ([0-9]+)")
