@@ -20,7 +20,7 @@ use Rattle.wide_translation.specs.declared.translation_error.TranslationError.{T
 use Rattle.wide_translation.specs.Carried.{plain, OptionalValue, TakenName, Translation, taken, refused}
 use Rattle.wide_translation.specs.Declarations.{ReturnsCarried}
 use Rattle.wide_translation.specs.Forms.{filter_map_tree}
-use Rattle.wide_translation.specs.Names.{is_taken}
+use Rattle.wide_translation.specs.Names.{is_taken, written_name}
 use Rattle.wide_translation.specs.Scope.{WideScope, within}
 use Rattle.wide_translation.specs.Translated.{with_carried, with_plain, has_carried, index_carried, text_literal, count_literal}
 use Rattle.wide_translation.specs.Translated.{operand, compares, binary_carried, ternary_carried, fold_carried, on_list, optional_carried}
@@ -80,20 +80,21 @@ module _ (s : WideScope) (e : CodeWide) where
       (ap (λ (x : CodeWide). translated s (view x)) is ∙ ap (translated s) (view_ternary test one two)
       ∙ (λ j. with_plain (translated s (view (sym p j))) (λ k t. with_carried (translated s (view (sym q j))) (λ d. with_carried (translated s (view (sym o j))) (λ f. ternary_carried t d f)))))
 
-  -- ---- macros with one name, which may be bound: w where it is tested, y and v in the scope inside, and z in the tree
+  -- ---- macros with one name, which may be bound: w where it is tested, y and v in the scope inside, and z what it is
+  -- written as
 
   pub fold_returned : (m : Macro) (range : Box CodeWide Global) (x : String Global) (part : Box CodeWide Global) → e ≡ code.Fold m range x part → (a b : CodeWide) (w y z : List ℕ) (r : Result CodeCarried TranslationError)
-      → a ≡ range.value → b ≡ part.value → w ≡ string_bytes x → y ≡ string_bytes x → z ≡ string_bytes x → is_taken w ≡ false
+      → a ≡ range.value → b ≡ part.value → w ≡ string_bytes x → y ≡ string_bytes x → z ≡ written_name (string_bytes x) → is_taken w ≡ false
       → ReturnsCarried (with_plain (translated s (view a)) (λ k t. with_plain (translated (within y kind.Dyn s) (view b)) (λ i u. taken (fold_carried m z t u)))) r → ReturnsCarried (translated s (view e)) r
   unfolding translated
   fold_returned m range x part is a b w y z r p q l n o free =
       returned _ _ r
       (ap (λ (v : CodeWide). translated s (view v)) is ∙ ap (translated s) (view_fold m range x part)
-      ∙ (λ j. if is_free x w l free j then refused (TakenName (string_bytes x)) else with_plain (translated s (view range.value)) (λ k t. with_plain (translated (within (string_bytes x) kind.Dyn s) (view part.value)) (λ i u. taken (fold_carried m (string_bytes x) t u))))
+      ∙ (λ j. if is_free x w l free j then refused (TakenName (string_bytes x)) else with_plain (translated s (view range.value)) (λ k t. with_plain (translated (within (string_bytes x) kind.Dyn s) (view part.value)) (λ i u. taken (fold_carried m (written_name (string_bytes x)) t u))))
       ∙ (λ j. with_plain (translated s (view (sym p j))) (λ k t. with_plain (translated (within (sym n j) kind.Dyn s) (view (sym q j))) (λ i u. taken (fold_carried m (sym o j) t u)))))
 
   pub filter_map_returned : (range : Box CodeWide Global) (x : String Global) (predicate transform : Box CodeWide Global) → e ≡ code.FilterMap range x predicate transform → (a b c : CodeWide) (w y v z : List ℕ) (r : Result CodeCarried TranslationError)
-      → a ≡ range.value → b ≡ predicate.value → c ≡ transform.value → w ≡ string_bytes x → y ≡ string_bytes x → v ≡ string_bytes x → z ≡ string_bytes x → is_taken w ≡ false
+      → a ≡ range.value → b ≡ predicate.value → c ≡ transform.value → w ≡ string_bytes x → y ≡ string_bytes x → v ≡ string_bytes x → z ≡ written_name (string_bytes x) → is_taken w ≡ false
       → ReturnsCarried (with_plain (translated s (view a)) (λ k t. with_plain (translated (within y kind.Dyn s) (view b)) (λ i u. with_plain (translated (within v kind.Dyn s) (view c)) (λ h d. taken (plain kind.List (filter_map_tree z t u d)))))) r
       → ReturnsCarried (translated s (view e)) r
   unfolding translated
@@ -101,17 +102,17 @@ module _ (s : WideScope) (e : CodeWide) where
       returned _ _ r
       (ap (λ (d : CodeWide). translated s (view d)) is ∙ ap (translated s) (view_filter_map range x predicate transform)
       ∙ (λ j. if is_free x w l free j then refused (TakenName (string_bytes x)) else with_plain (translated s (view range.value)) (λ k t. with_plain (translated (within (string_bytes x) kind.Dyn s) (view predicate.value))
-      (λ i u. with_plain (translated (within (string_bytes x) kind.Dyn s) (view transform.value)) (λ h d. taken (plain kind.List (filter_map_tree (string_bytes x) t u d))))))
+      (λ i u. with_plain (translated (within (string_bytes x) kind.Dyn s) (view transform.value)) (λ h d. taken (plain kind.List (filter_map_tree (written_name (string_bytes x)) t u d))))))
       ∙ (λ j. with_plain (translated s (view (sym p j))) (λ k t. with_plain (translated (within (sym n j) kind.Dyn s) (view (sym q j)))
       (λ i u. with_plain (translated (within (sym g j) kind.Dyn s) (view (sym f j))) (λ h d. taken (plain kind.List (filter_map_tree (sym o j) t u d)))))))
 
   pub optional_fold_returned : (m : OptionalMacro) (of : Box CodeWide Global) (x : String Global) (part : Box CodeWide Global) → e ≡ code.OptionalFold m of x part → (a b : CodeWide) (w y z : List ℕ) (r : Result CodeCarried TranslationError)
-      → a ≡ of.value → b ≡ part.value → w ≡ string_bytes x → y ≡ string_bytes x → z ≡ string_bytes x → is_taken w ≡ false
+      → a ≡ of.value → b ≡ part.value → w ≡ string_bytes x → y ≡ string_bytes x → z ≡ written_name (string_bytes x) → is_taken w ≡ false
       → ReturnsCarried (with_carried (translated s (view a)) (λ c. on_list OptionalValue c (λ k t. with_carried (translated (within y kind.Dyn s) (view b)) (optional_carried m z t)))) r
       → ReturnsCarried (translated s (view e)) r
   unfolding translated
   optional_fold_returned m of x part is a b w y z r p q l n o free =
       returned _ _ r
       (ap (λ (v : CodeWide). translated s (view v)) is ∙ ap (translated s) (view_optional_fold m of x part)
-      ∙ (λ j. if is_free x w l free j then refused (TakenName (string_bytes x)) else with_carried (translated s (view of.value)) (λ c. on_list OptionalValue c (λ k t. with_carried (translated (within (string_bytes x) kind.Dyn s) (view part.value)) (optional_carried m (string_bytes x) t))))
+      ∙ (λ j. if is_free x w l free j then refused (TakenName (string_bytes x)) else with_carried (translated s (view of.value)) (λ c. on_list OptionalValue c (λ k t. with_carried (translated (within (string_bytes x) kind.Dyn s) (view part.value)) (optional_carried m (written_name (string_bytes x)) t))))
       ∙ (λ j. with_carried (translated s (view (sym p j))) (λ c. on_list OptionalValue c (λ k t. with_carried (translated (within (sym n j) kind.Dyn s) (view (sym q j))) (optional_carried m (sym o j) t)))))

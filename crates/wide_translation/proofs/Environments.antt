@@ -1,8 +1,6 @@
 -- Names in the environments of the translation.
 use Rattle.std.proofs.Common.{◌≡◌, ℕ, zero, suc, ◌<◌, ◌≤◌, Bool, true, false, List, ◌∷◌, length, replicate, Option}
-use Rattle.std.proofs.Common.{Some, None, pos, bytes_eq, nat_eq, codes, if◌then◌else◌, refl, ap, sym, ◌∙◌, ◌||◌, ◌&&◌}
-use Rattle.std.proofs.Common.{arith}
-use Rattle.std.specs.List.{starts_with}
+use Rattle.std.proofs.Common.{Some, None, pos, bytes_eq, codes, if◌then◌else◌, refl, ap, sym, ◌∙◌, ◌++◌, ◌&&◌, arith}
 use lib.Pointwise.{bytes_decides}
 use Rattle.std.specs.Option.{option_or}
 use Rattle.cel_reader.specs.Tree as tree
@@ -22,34 +20,16 @@ use Rattle.wide_kinds.specs.Fitting.{has_kind}
 use Rattle.wide_translation.specs.Forms.{null_tree, placed_tree, root_tree, part_tree}
 use Rattle.wide_translation.specs.Holds.{WideNamed, IsApart, WideStandsFor}
 use Rattle.wide_translation.specs.Names.{held_name, index_name, pair_name, namespace_name, params_name, params_field, tables_field}
-use Rattle.wide_translation.specs.Names.{indices_field, is_taken}
+use Rattle.wide_translation.specs.Names.{indices_field, is_taken, written_name}
 use Rattle.wide_translation.specs.Pairs.{PairUse, table_tree, values_only, keys_only, both, pair_binder, within_pair}
 use Rattle.wide_translation.specs.Scope.{WideScope, Place, itself, part, unused, within}
-
--- ---- bools
-
-pub or_left : (a b : Bool) → (a || b) ≡ false → a ≡ false
-or_left false b h = refl
-or_left true b h = h
-
-pub or_right : (a b : Bool) → (a || b) ≡ false → b ≡ false
-or_right false b h = h
-or_right true b h = absurd (cc)
-
-pub root_free : (x : List ℕ) → is_taken x ≡ false → is_root x ≡ false
-root_free x h = or_left (is_root x) (bytes_eq variables_name x) (or_left (is_root x || bytes_eq variables_name x) (starts_with nat_eq x (codes "celbpf_")) h)
-
-pub variables_free : (x : List ℕ) → is_taken x ≡ false → bytes_eq variables_name x ≡ false
-variables_free x h = or_right (is_root x) (bytes_eq variables_name x) (or_left (is_root x || bytes_eq variables_name x) (starts_with nat_eq x (codes "celbpf_")) h)
+use Rattle.wide_translation.proofs.WrittenNames.{unlike, not_written, pair_end_is_free, written_apart, written_and_pair}
+use Rattle.wide_translation.proofs.WrittenNames.{written_is_no_root}
 
 -- ---- a name that is no root differs from each root
 
-differs_by : (b : Bool) (x n : List ℕ) → bytes_eq x n ≡ b → is_root x ≡ false → is_root n ≡ true → b ≡ false
-differs_by false x n e h g = refl
-differs_by true x n e h g = absurd (let same : x ≡ n = (bytes_decides x n).0 e in let other : is_root n ≡ false = sym (ap is_root same) ∙ h in cc)
-
 pub differs : (x n : List ℕ) → is_root x ≡ false → is_root n ≡ true → bytes_eq x n ≡ false
-differs x n h g = differs_by (bytes_eq x n) x n refl h g
+differs x n h g = unlike is_root x n h g
 
 pub params_is_root : is_root params_name ≡ true
 unfolding is_root
@@ -132,30 +112,8 @@ table_stays x v env h = ap (λ y. field_of (field_of y tables_field) indices_fie
 -- a name that the translation may bind: none of those in scope
 pub record IsFresh (s : WideScope) (x : List ℕ) : Type 0 where
   pub root : is_root x ≡ false
-  pub name : (n : List ℕ) → is_taken n ≡ false → bytes_eq x n ≡ false
+  pub name : (n : List ℕ) → is_taken n ≡ false → bytes_eq x (written_name n) ≡ false
   pub pair : (d : ℕ) → d < length s.names → bytes_eq x (pair_name d) ≡ false
-
--- a taken name is none that is not
-free_by : (b : Bool) (x n : List ℕ) → bytes_eq x n ≡ b → is_taken x ≡ true → is_taken n ≡ false → b ≡ false
-free_by false x n e h g = refl
-free_by true x n e h g = absurd (let same : x ≡ n = (bytes_decides x n).0 e in let other : is_taken n ≡ true = sym (ap is_taken same) ∙ h in cc)
-
-pub taken_differs : (x n : List ℕ) → is_taken x ≡ true → is_taken n ≡ false → bytes_eq x n ≡ false
-taken_differs x n h g = free_by (bytes_eq x n) x n refl h g
-
-free_differs_by : (b : Bool) (x n : List ℕ) → bytes_eq x n ≡ b → is_taken x ≡ false → is_taken n ≡ true → b ≡ false
-free_differs_by false x n e h g = refl
-free_differs_by true x n e h g = absurd (let same : x ≡ n = (bytes_decides x n).0 e in let other : is_taken n ≡ false = sym (ap is_taken same) ∙ h in cc)
-
-free_differs : (x n : List ℕ) → is_taken x ≡ false → is_taken n ≡ true → bytes_eq x n ≡ false
-free_differs x n h g = free_differs_by (bytes_eq x n) x n refl h g
-
-pub pair_is_taken : (d : ℕ) → is_taken (pair_name d) ≡ true
-unfolding is_root
-pair_is_taken d = refl
-
-pub user_and_pair : (x : List ℕ) (d : ℕ) → is_taken x ≡ false → bytes_eq x (pair_name d) ≡ false
-user_and_pair x d h = free_differs x (pair_name d) h (pair_is_taken d)
 
 longer_differs : (d e : ℕ) → d < e → bytes_eq (replicate e 112) (replicate d 112) ≡ false
 longer_differs d zero h = absurd (omega (arith, h))
@@ -167,11 +125,11 @@ pairs_differ d e h = longer_differs d e h
 
 pub held_is_fresh : (s : WideScope) → IsFresh s held_name
 unfolding is_root
-held_is_fresh s = record { root = refl; name = λ n h. taken_differs held_name n refl h; pair = λ d h. refl }
+held_is_fresh s = record { root = refl; name = λ n h. not_written (codes "a") n refl h; pair = λ d h. refl }
 
 pub index_is_fresh : (s : WideScope) → IsFresh s index_name
 unfolding is_root
-index_is_fresh s = record { root = refl; name = λ n h. taken_differs index_name n refl h; pair = λ d h. refl }
+index_is_fresh s = record { root = refl; name = λ n h. not_written (codes "i") n refl h; pair = λ d h. refl }
 
 pub index_is_no_root : is_root index_name ≡ false
 unfolding is_root
@@ -184,15 +142,15 @@ pair_is_no_root d = refl
 pub pair_is_fresh : (s : WideScope) → IsFresh s (pair_name (length s.names))
 pair_is_fresh s = record {
   root = pair_is_no_root (length s.names);
-  name = λ n h. taken_differs (pair_name (length s.names)) n (pair_is_taken (length s.names)) h;
+  name = λ n h. not_written (codes "p" ++ replicate (length s.names) 112) n (pair_end_is_free (length s.names)) h;
   pair = λ d h. pairs_differ d (length s.names) h;
 }
 
 -- a name in scope that is not x keeps its value where x is bound
-pub named_kept : (o : Option Place) (i : Option Value) (x n : List ℕ) (w : Value) (m : ℕ) (env : Environment) → (is_taken n ≡ false → bytes_eq x n ≡ false)
+pub named_kept : (o : Option Place) (i : Option Value) (x n : List ℕ) (w : Value) (m : ℕ) (env : Environment) → (is_taken n ≡ false → bytes_eq x (written_name n) ≡ false)
     → ((d : ℕ) → d < m → bytes_eq x (pair_name d) ≡ false) → IsApart n o m → WideNamed n o i env → WideNamed n o i (bind x w env)
 unfolding meaning
-named_kept (Some (itself k)) (Some v) x n w m env f g a h = (other_name x n w env (f a) ∙ h.0, h.1)
+named_kept (Some (itself k)) (Some v) x n w m env f g a h = (other_name x (written_name n) w env (f a) ∙ h.0, h.1)
 named_kept (Some (part y j)) (Some v) x n w m env f g a h =
     ap (λ z. index_of z (value (int (pos j)))) (other_name x y w env (ap (bytes_eq x) a.1 ∙ g a.0 a.2)) ∙ h
 named_kept (Some unused) (Some v) x n w m env f g a h = tt
@@ -221,8 +179,8 @@ apart_later n (Some (part y i)) m l h a = (a.0, a.1, omega (arith, h, a.2))
 apart_later n (Some unused) m l h a = a
 apart_later n None m l h a = tt
 
-pub this_value : (x n : List ℕ) (v : Value) (env : Environment) → bytes_eq x n ≡ true → name_value n (bind x v env) ≡ value v
-this_value x n v env e = name_bound x n v env ∙ ap (λ b. if b then value v else name_value n env) e
+pub this_value : (x n : List ℕ) (v : Value) (env : Environment) → bytes_eq x n ≡ true → name_value (written_name n) (bind (written_name x) v env) ≡ value v
+this_value x n v env e = ap (λ (m : List ℕ). name_value (written_name m) (bind (written_name x) v env)) (sym ((bytes_decides x n).0 e)) ∙ this_name (written_name x) v env
 
 pub free_again : (x n : List ℕ) → bytes_eq x n ≡ true → is_taken x ≡ false → is_taken n ≡ false
 free_again x n e h = sym (ap is_taken ((bytes_decides x n).0 e)) ∙ h
@@ -237,11 +195,11 @@ apart_by true p o n m h g = h refl
 apart_by false p o n m h g = g
 
 pub both_bound : (s : WideScope) (x : List ℕ) (k : ValueKind) (v : Value) (env : WideEnvironment) (env' : Environment) → is_taken x ≡ false → has_kind k v ≡ true
-    → WideStandsFor s env env' → WideStandsFor (within x k s) (bound x v env) (bind x v env')
+    → WideStandsFor s env env' → WideStandsFor (within x k s) (bound x v env) (bind (written_name x) v env')
 both_bound s x k v env env' h hk r = record {
-  named = λ n. named_by (bytes_eq x n) (itself k) v (lookup n s.names) (lookup n env.items) n (bind x v env') (λ e. (this_value x n v env' e, hk))
-      (λ e. named_kept (lookup n s.names) (lookup n env.items) x n v (length s.names) env' (λ f. e) (λ d f. user_and_pair x d h) (r.apart n) (r.named n));
-  rooted = λ n g. root_stays s x n v env' (root_free x h) g ∙ r.rooted n g;
+  named = λ n. named_by (bytes_eq x n) (itself k) v (lookup n s.names) (lookup n env.items) n (bind (written_name x) v env') (λ e. (this_value x n v env' e, hk))
+      (λ e. named_kept (lookup n s.names) (lookup n env.items) (written_name x) n v (length s.names) env' (λ f. written_apart x n h f e) (λ d f. written_and_pair x d h) (r.apart n) (r.named n));
+  rooted = λ n g. root_stays s (written_name x) n v env' (written_is_no_root x) g ∙ r.rooted n g;
   declared = r.declared;
   apart = λ n. apart_by (bytes_eq x n) (itself k) (lookup n s.names) n (suc (length s.names)) (λ e. free_again x n e h)
       (apart_later n (lookup n s.names) (length s.names) (suc (length s.names)) (omega arith) (r.apart n));
@@ -260,7 +218,7 @@ module _ (s : WideScope) (k v : List ℕ) (p q : Place) (e : Value × Value) (y 
   two_bound : is_root y ≡ false
       → ((n : List ℕ) → bytes_eq v n ≡ true → WideNamed n (Some q) (Some e.1) (bind y w env'))
       → ((n : List ℕ) → bytes_eq v n ≡ false → bytes_eq k n ≡ true → WideNamed n (Some p) (Some e.0) (bind y w env'))
-      → ((n : List ℕ) → bytes_eq v n ≡ false → bytes_eq k n ≡ false → is_taken n ≡ false → bytes_eq y n ≡ false)
+      → ((n : List ℕ) → bytes_eq v n ≡ false → bytes_eq k n ≡ false → is_taken n ≡ false → bytes_eq y (written_name n) ≡ false)
       → ((d : ℕ) → d < length s.names → bytes_eq y (pair_name d) ≡ false)
       → ((n : List ℕ) → bytes_eq v n ≡ true → IsApart n (Some q) (suc (suc (length s.names))))
       → ((n : List ℕ) → bytes_eq k n ≡ true → IsApart n (Some p) (suc (suc (length s.names))))
@@ -284,20 +242,20 @@ second_part : (y : List ℕ) (a b : Value) (env : Environment) → meaning (part
 unfolding meaning
 second_part y a b env = ap (λ z. index_of z (value (int (pos 1)))) (this_name y (list (item a (item b no_items))) env)
 
-pub binder_is_no_root : (u : PairUse) (s : WideScope) (k v : List ℕ) → is_taken k ≡ false → is_taken v ≡ false → is_root (pair_binder u k v s) ≡ false
-binder_is_no_root values_only s k v h g = root_free v g
-binder_is_no_root keys_only s k v h g = root_free k h
-binder_is_no_root both s k v h g = pair_is_no_root (length s.names)
+pub binder_is_no_root : (u : PairUse) (s : WideScope) (k v : List ℕ) → is_root (pair_binder u k v s) ≡ false
+binder_is_no_root values_only s k v = written_is_no_root v
+binder_is_no_root keys_only s k v = written_is_no_root k
+binder_is_no_root both s k v = pair_is_no_root (length s.names)
 
 pub pair_bound : (u : PairUse) (s : WideScope) (k v : List ℕ) (e : Value × Value) (env : WideEnvironment) (env' : Environment) → is_taken k ≡ false → is_taken v ≡ false
     → WideStandsFor s env env' → WideStandsFor (within_pair u k v s) (bound v e.1 (bound k e.0 env)) (bind (pair_binder u k v s) (picked u e) env')
 pair_bound values_only s k v e env env' hk hv r =
-    two_bound s k v unused (itself kind.Dyn) e v e.1 env env' r (root_free v hv)
-    (λ n i. (this_value v n e.1 env' i, refl)) (λ n i j. tt) (λ n i j f. i) (λ d f. user_and_pair v d hv)
+    two_bound s k v unused (itself kind.Dyn) e (written_name v) e.1 env env' r (written_is_no_root v)
+    (λ n i. (this_value v n e.1 env' i, refl)) (λ n i j. tt) (λ n i j f. written_apart v n hv f i) (λ d f. written_and_pair v d hv)
     (λ n i. free_again v n i hv) (λ n i. free_again k n i hk)
 pair_bound keys_only s k v e env env' hk hv r =
-    two_bound s k v (itself kind.Dyn) unused e k e.0 env env' r (root_free k hk)
-    (λ n i. tt) (λ n i j. (this_value k n e.0 env' j, refl)) (λ n i j f. j) (λ d f. user_and_pair k d hk)
+    two_bound s k v (itself kind.Dyn) unused e (written_name k) e.0 env env' r (written_is_no_root k)
+    (λ n i. tt) (λ n i j. (this_value k n e.0 env' j, refl)) (λ n i j f. written_apart k n hk f j) (λ d f. written_and_pair k d hk)
     (λ n i. free_again v n i hv) (λ n i. free_again k n i hk)
 pair_bound both s k v e env env' hk hv r =
     let m : ℕ = length s.names in

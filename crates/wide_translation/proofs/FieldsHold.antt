@@ -38,7 +38,8 @@ use Rattle.wide_translation.specs.Translated.{with_carried, on_plain, with_plain
 use Rattle.wide_translation.specs.Translated.{name_translation, variable_translation, optional_field, field_of_list}
 use Rattle.wide_translation.specs.Translated.{present_of, field_of_guarded, field_carried, has_value_carried, has_carried}
 use Rattle.wide_translation.specs.Translated.{has_value_translation, selected_translation}
-use Rattle.wide_translation.proofs.Environments.{variables_free, root_tree_free}
+use Rattle.wide_translation.proofs.Environments.{root_tree_free}
+use Rattle.wide_translation.proofs.WrittenNames.{written_is_no_variables}
 use Rattle.wide_translation.proofs.Steps.{field_outcome, access_means, access_free, present_means, value_of_field}
 use Rattle.wide_translation.proofs.Steps.{guarded_means, guard_again, field_list_means, let_held, present_of_means, present_of_free, after}
 use Rattle.wide_translation.proofs.Steps.{flat_holds, field_list_held}
@@ -101,21 +102,21 @@ pub root_holds : (s : WideScope) (n : List ℕ) (env : WideEnvironment) (env' : 
     → WideHolds (root_translation s n) (root_in n env.roots) env'
 root_holds s n env env' r = root_by (is_root n) s n env env' refl r
 
-name_by : (o : Option Place) (i : Option Value) (n : List ℕ) (m : ℕ) (t : Translation) (x : Outcome) (env' : Environment)
-    → WideNamed n o i env' → IsApart n o m → WideHolds t x env' → WideHolds (name_translation o n t) (item_or i x) env'
+name_by : (o : Option Place) (i : Option Value) (n : List ℕ) (t : Translation) (x : Outcome) (env' : Environment)
+    → WideNamed n o i env' → WideHolds t x env' → WideHolds (name_translation o n t) (item_or i x) env'
 unfolding meaning is_variables
-name_by (Some (itself k)) (Some v) n m t x env' h g r = record { means = h.0; kind = h.1; free = variables_free n g }
-name_by (Some (part d j)) (Some v) n m t x env' h g r = record { means = h; kind = refl; free = refl }
-name_by (Some unused) i n m t x env' h g r = tt
-name_by None None n m t x env' h g r = r
-name_by (Some (itself k)) None n m t x env' h g r = absurd h
-name_by (Some (part d j)) None n m t x env' h g r = absurd h
-name_by None (Some v) n m t x env' h g r = absurd h
+name_by (Some (itself k)) (Some v) n t x env' h r = record { means = h.0; kind = h.1; free = written_is_no_variables n }
+name_by (Some (part d j)) (Some v) n t x env' h r = record { means = h; kind = refl; free = refl }
+name_by (Some unused) i n t x env' h r = tt
+name_by None None n t x env' h r = r
+name_by (Some (itself k)) None n t x env' h r = absurd h
+name_by (Some (part d j)) None n t x env' h r = absurd h
+name_by None (Some v) n t x env' h r = absurd h
 
 pub name_holds : (s : WideScope) (n : List ℕ) (env : WideEnvironment) (env' : Environment) → WideStandsFor s env env'
     → WideHolds (name_translation (lookup n s.names) n (root_translation s n)) (name_in n env) env'
 name_holds s n env env' r =
-    name_by (lookup n s.names) (lookup n env.items) n (length s.names) (root_translation s n) (root_in n env.roots) env' (r.named n) (r.apart n) (root_holds s n env env' r)
+    name_by (lookup n s.names) (lookup n env.items) n (root_translation s n) (root_in n env.roots) env' (r.named n) (root_holds s n env env' r)
 
 -- ---- variables
 

@@ -1,4 +1,5 @@
 -- Proofs of wide_translation: the list of their modules.
+pub mod WrittenNames
 pub mod Environments
 pub mod Steps
 pub mod FieldsHold

@@ -13,7 +13,7 @@ unfoldable use Rattle.wide_translation.specs.Indexed.{Indexed, AllIndexed, Items
 use Rattle.wide_translation.specs.Uses.{uses}
 unfoldable use Rattle.wide_translation.specs.Uses.{uses_keys, any_uses_keys, items_use_keys, entries_use_keys}
 use Rattle.wide_translation.proofs.EachItem.{for_each}
-use Rattle.wide_translation.proofs.Environments.{or_left, or_right}
+use Rattle.wide_translation.proofs.WrittenNames.{or_left, or_right}
 
 covers_nothing : (b : Bool) (y x : ValueOrError) → b ≡ false → CoversIf b y x
 covers_nothing b y x e = subst (λ (c : Bool). CoversIf c y x) (sym e) tt

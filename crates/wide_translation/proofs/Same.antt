@@ -28,7 +28,7 @@ use Rattle.wide_translation.specs.Carried.{plain, OptionalValue, TakenName, Unsi
 use Rattle.wide_translation.specs.Forms.{filter_map_tree}
 use Rattle.wide_translation.specs.Holds.{WideHolds, WideStandsFor}
 use Rattle.wide_translation.specs.Laws.{TranslationMeansTheSame}
-use Rattle.wide_translation.specs.Names.{held_name, index_name, second_name, is_taken}
+use Rattle.wide_translation.specs.Names.{held_name, index_name, second_name, is_taken, written_name}
 use Rattle.wide_translation.specs.Indexed.{ForEach, ForPresent}
 unfoldable use Rattle.wide_translation.specs.Indexed.{Indexed, AllIndexed, ItemsIndexed, EntriesIndexed}
 use Rattle.wide_translation.specs.Pairs.{PairUse, values_only, keys_only, both, table_tree, pair_use, pair_binder}
@@ -41,11 +41,12 @@ use Rattle.wide_translation.specs.Translated.{index_carried, text_literal, count
 unfoldable use Rattle.wide_translation.specs.Translated.{translated, all_translated, items_translated}
 unfoldable use Rattle.wide_translation.specs.Translated.{entries_translated}
 use Rattle.wide_translation.proofs.EachItem.{each_later}
-use Rattle.wide_translation.proofs.Environments.{root_free, both_bound, held_bound, held_is_no_root, fresh_bound}
+use Rattle.wide_translation.proofs.Environments.{both_bound, held_bound, held_is_no_root, fresh_bound}
 use Rattle.wide_translation.proofs.Environments.{index_is_fresh, index_is_no_root, pair_bound, binder_is_no_root}
 use Rattle.wide_translation.proofs.Environments.{picked, table_stays}
 use Rattle.wide_translation.proofs.Kept.{with_kept, second_bound, second_is_no_root}
 use Rattle.wide_translation.proofs.NoTable.{indexed}
+use Rattle.wide_translation.proofs.WrittenNames.{written_is_no_root}
 use Rattle.wide_translation.proofs.FieldsHold.{plain_holds, with_holds, with_plain_holds, on_list_holds, root_holds}
 use Rattle.wide_translation.proofs.FieldsHold.{name_holds, selected_holds, has_holds}
 use Rattle.wide_translation.proofs.OperatorsHold.{unary_holds, binary_holds, ternary_holds, PartsHold, part_more}
@@ -105,35 +106,35 @@ module _ (others : Wide → WideEnvironment → Outcome) where
 
   -- a macro, if its iteration name is one that may be bound
   fold_by : (b : Bool) (m : Macro) (x : List ℕ) (t u : Translation) (r : Outcome) (p : Value → Outcome) (env : Environment) → is_taken x ≡ b
-      → WideHolds t r env → (is_taken x ≡ false → EachItem x u p r env)
-      → WideHolds (if b then refused (TakenName x) else with_plain t (λ k a. with_plain u (λ j c. taken (fold_carried m x a c))))
+      → WideHolds t r env → (is_taken x ≡ false → EachItem (written_name x) u p r env)
+      → WideHolds (if b then refused (TakenName x) else with_plain t (λ k a. with_plain u (λ j c. taken (fold_carried m (written_name x) a c))))
       (outcome_of (over_items (plain_macro_of m) (λ v. plain_part (p v)) (range_of (plain_part r)))) env
   fold_by true m x t u r p env e h i = tt
   fold_by false m x t u r p env e h i =
       let o : Outcome = outcome_of (over_items (plain_macro_of m) (λ v. plain_part (p v)) (range_of (plain_part r))) in
-      with_plain_holds t (λ k a. with_plain u (λ j c. taken (fold_carried m x a c))) r o env h
-      (λ k a g. over_holds x u p (λ j c. taken (fold_carried m x a c)) r o env (i e) (λ j c q. fold_holds m x k j a c r p env g q))
+      with_plain_holds t (λ k a. with_plain u (λ j c. taken (fold_carried m (written_name x) a c))) r o env h
+      (λ k a g. over_holds (written_name x) u p (λ j c. taken (fold_carried m (written_name x) a c)) r o env (i e) (λ j c q. fold_holds m (written_name x) k j a c r p env g q))
 
   filter_by : (b : Bool) (x : List ℕ) (t u w : Translation) (r : Outcome) (p q : Value → Outcome) (env : Environment) → is_taken x ≡ b
-      → WideHolds t r env → (is_taken x ≡ false → EachItem x u p r env) → (is_taken x ≡ false → EachItem x w q r env)
-      → WideHolds (if b then refused (TakenName x) else with_plain t (λ k a. with_plain u (λ j c. with_plain w (λ i d. taken (plain kind.List (filter_map_tree x a c d))))))
+      → WideHolds t r env → (is_taken x ≡ false → EachItem (written_name x) u p r env) → (is_taken x ≡ false → EachItem (written_name x) w q r env)
+      → WideHolds (if b then refused (TakenName x) else with_plain t (λ k a. with_plain u (λ j c. with_plain w (λ i d. taken (plain kind.List (filter_map_tree (written_name x) a c d))))))
       (outcome_of (filter_map_over (λ v. plain_part (p v)) (λ v. plain_part (q v)) (range_of (plain_part r)))) env
   filter_by true x t u w r p q env e h i l = tt
   filter_by false x t u w r p q env e h i l =
       let o : Outcome = outcome_of (filter_map_over (λ v. plain_part (p v)) (λ v. plain_part (q v)) (range_of (plain_part r))) in
-      with_plain_holds t (λ k a. with_plain u (λ j c. with_plain w (λ n d. taken (plain kind.List (filter_map_tree x a c d))))) r o env h
-      (λ k a g. over_holds x u p (λ j c. with_plain w (λ n d. taken (plain kind.List (filter_map_tree x a c d)))) r o env (i e)
-      (λ j c y. over_holds x w q (λ n d. taken (plain kind.List (filter_map_tree x a c d))) r o env (l e)
-      (λ n d z. filter_map_holds x k j n a c d r p q env g y z)))
+      with_plain_holds t (λ k a. with_plain u (λ j c. with_plain w (λ n d. taken (plain kind.List (filter_map_tree (written_name x) a c d))))) r o env h
+      (λ k a g. over_holds (written_name x) u p (λ j c. with_plain w (λ n d. taken (plain kind.List (filter_map_tree (written_name x) a c d)))) r o env (i e)
+      (λ j c y. over_holds (written_name x) w q (λ n d. taken (plain kind.List (filter_map_tree (written_name x) a c d))) r o env (l e)
+      (λ n d z. filter_map_holds (written_name x) k j n a c d r p q env g y z)))
 
   optional_by : (b : Bool) (m : OptionalMacro) (x : List ℕ) (t u : Translation) (o : Outcome) (p : Value → Outcome) (env : Environment) → is_taken x ≡ b
-      → WideHolds t o env → (is_taken x ≡ false → OfPresent x u p o env)
-      → WideHolds (if b then refused (TakenName x) else with_carried t (λ c. on_list OptionalValue c (λ k l. with_carried u (optional_carried m x l)))) (optional_over m p o) env
+      → WideHolds t o env → (is_taken x ≡ false → OfPresent (written_name x) u p o env)
+      → WideHolds (if b then refused (TakenName x) else with_carried t (λ c. on_list OptionalValue c (λ k l. with_carried u (optional_carried m (written_name x) l)))) (optional_over m p o) env
   optional_by true m x t u o p env e h i = tt
   optional_by false m x t u o p env e h i =
-      with_holds t (λ c. on_list OptionalValue c (λ k l. with_carried u (optional_carried m x l))) o (optional_over m p o) env h
-      (λ c g. on_list_holds OptionalValue c (λ k l. with_carried u (optional_carried m x l)) o (optional_over m p o) env g
-      (λ k l q. optional_holds m x k l u o p env q (i e)))
+      with_holds t (λ c. on_list OptionalValue c (λ k l. with_carried u (optional_carried m (written_name x) l))) o (optional_over m p o) env h
+      (λ c g. on_list_holds OptionalValue c (λ k l. with_carried u (optional_carried m (written_name x) l)) o (optional_over m p o) env g
+      (λ k l q. optional_holds m (written_name x) k l u o p env q (i e)))
 
   -- a macro with two names, if both may be bound
   two_names : (b c : Bool) (k v : List ℕ) (t : Translation) (o : Outcome) (env : Environment) → is_taken k ≡ b → is_taken v ≡ c
@@ -169,11 +170,11 @@ module _ (others : Wide → WideEnvironment → Outcome) where
     -- the body p of a macro, for each item of its range a
     over_body : (x : List ℕ) (p a : Wide) (s : WideScope) (env : WideEnvironment) (env' : Environment) → IsSame p → is_taken x ≡ false → WideStandsFor s env env' → meaning table_tree env' ≡ y
         → (s.wrapped ≡ true → ForEach (λ v. Indexed others y p (bound x v env)) (range_of (plain_part (wide_meaning others a env))))
-        → EachItem x (translated (within x kind.Dyn s) p) (λ v. wide_meaning others p (bound x v env)) (wide_meaning others a env) env'
+        → EachItem (written_name x) (translated (within x kind.Dyn s) p) (λ v. wide_meaning others p (bound x v env)) (wide_meaning others a env) env'
     over_body x p a s env env' h e r t g =
-        each_later (s.wrapped ≡ true) (λ v. Indexed others y p (bound x v env)) (λ v. WideHolds (translated (within x kind.Dyn s) p) (wide_meaning others p (bound x v env)) (bind x v env'))
+        each_later (s.wrapped ≡ true) (λ v. Indexed others y p (bound x v env)) (λ v. WideHolds (translated (within x kind.Dyn s) p) (wide_meaning others p (bound x v env)) (bind (written_name x) v env'))
         (range_of (plain_part (wide_meaning others a env))) g
-        (λ v i. h (within x kind.Dyn s) (bound x v env) (bind x v env') (both_bound s x kind.Dyn v env env' e refl r) (table_stays x v env' (root_free x e) ∙ t) i)
+        (λ v i. h (within x kind.Dyn s) (bound x v env) (bind (written_name x) v env') (both_bound s x kind.Dyn v env env' e refl r) (table_stays (written_name x) v env' (written_is_no_root x) ∙ t) i)
 
     -- the same for each pair
     pair_body : (u : PairUse) (k v : List ℕ) (p a : Wide) (s : WideScope) (env : WideEnvironment) (env' : Environment) → IsSame p → is_taken k ≡ false → is_taken v ≡ false → WideStandsFor s env env'
@@ -184,16 +185,16 @@ module _ (others : Wide → WideEnvironment → Outcome) where
         (λ c. WideHolds (translated (within_pair u k v s) p) (wide_meaning others p (bound v c.1 (bound k c.0 env))) (bind (pair_binder u k v s) (picked u c) env'))
         (pairs_of (plain_part (wide_meaning others a env))) g
         (λ c i. h (within_pair u k v s) (bound v c.1 (bound k c.0 env)) (bind (pair_binder u k v s) (picked u c) env') (pair_bound u s k v c env env' e f r)
-        (table_stays (pair_binder u k v s) (picked u c) env' (binder_is_no_root u s k v e f) ∙ t) (pair_fits u k v p s c env i))
+        (table_stays (pair_binder u k v s) (picked u c) env' (binder_is_no_root u s k v) ∙ t) (pair_fits u k v p s c env i))
 
     -- the same for the value of an optional value
     present_body : (x : List ℕ) (p a : Wide) (s : WideScope) (env : WideEnvironment) (env' : Environment) → IsSame p → is_taken x ≡ false → WideStandsFor s env env' → meaning table_tree env' ≡ y
         → (s.wrapped ≡ true → ForPresent (λ v. Indexed others y p (bound x v env)) (wide_meaning others a env))
-        → OfPresent x (translated (within x kind.Dyn s) p) (λ v. wide_meaning others p (bound x v env)) (wide_meaning others a env) env'
+        → OfPresent (written_name x) (translated (within x kind.Dyn s) p) (λ v. wide_meaning others p (bound x v env)) (wide_meaning others a env) env'
     present_body x p a s env env' h e r t g =
-        present_later (s.wrapped ≡ true) (λ v. Indexed others y p (bound x v env)) (λ v. WideHolds (translated (within x kind.Dyn s) p) (wide_meaning others p (bound x v env)) (bind x v env'))
+        present_later (s.wrapped ≡ true) (λ v. Indexed others y p (bound x v env)) (λ v. WideHolds (translated (within x kind.Dyn s) p) (wide_meaning others p (bound x v env)) (bind (written_name x) v env'))
         (wide_meaning others a env) g
-        (λ v i. h (within x kind.Dyn s) (bound x v env) (bind x v env') (both_bound s x kind.Dyn v env env' e refl r) (table_stays x v env' (root_free x e) ∙ t) i)
+        (λ v i. h (within x kind.Dyn s) (bound x v env) (bind (written_name x) v env') (both_bound s x kind.Dyn v env env' e refl r) (table_stays (written_name x) v env' (written_is_no_root x) ∙ t) i)
 
     -- the range, where the name of an index has a value
     steady : (a : Wide) (s : WideScope) (env : WideEnvironment) (env' : Environment) → IsSame a → WideStandsFor s env env' → meaning table_tree env' ≡ y → Fits s a env

@@ -7,8 +7,8 @@ use Rattle.wide_reader.specs.Tree as wide
 use Rattle.wide_reader.specs.declared.wide.Access.{TheVariants.Plain, TheVariants.Optional}
 use Rattle.wide_reader.specs.declared.wide.PairMacro.TheVariants as pair
 use Rattle.wide_kinds.specs.declared.kind.ValueKind.TheVariants as kind
-use Rattle.wide_meaning.specs.Written.{num, str, yes, name, dot, maybe, method, or_value, list_literal, object_spec}
-use Rattle.wide_translation.specs.Carried.{TakenName, NeedsIndices, OptionalEntry}
+use Rattle.wide_meaning.specs.Written.{num, str, name, dot, maybe, method, or_value, list_literal, object_spec}
+use Rattle.wide_translation.specs.Carried.{NeedsIndices, OptionalEntry}
 use Rattle.wide_translation.specs.Written.{Becomes, BecomesWithTables, WideIsRefused, plain_spec, plain_field}
 use Rattle.wide_translation.specs.Written.{is_there, map_a, plain_a, plain_index, item_of, each_index, indices_of}
 use Rattle.wide_translation.specs.Written.{let_in, list_in, first_held, second_held, all_in, maybe_entry}
@@ -71,5 +71,3 @@ pub record FormRowsHold : Type 0 where
   pub equivalent : Becomes (method (name "sets") "equivalent" (object_spec ∷ list_literal (num 1 ∷ []) ∷ [])) kind.Bool
       (list_in "celbpf_a" plain_spec (list_in "celbpf_b" (plain.list_literal (plain.num 1 ∷ []))
       (binary And (all_in first_held second_held) (all_in second_held first_held))))
-  -- object.all(k, request, true)
-  pub taken_second : WideIsRefused (pairs pair.All (name "object") "k" "request" yes) (TakenName (codes "request"))

@@ -13,7 +13,7 @@ use Rattle.wide_kinds.specs.declared.kind.ValueKind.{ValueKind}
 use Rattle.wide_kinds.specs.Fitting.{has_kind, IsOfKind, IsOptionalOf}
 use Rattle.wide_translation.specs.Carried.{Carried, plain, guarded, listed, Translation, taken, refused}
 use Rattle.wide_translation.specs.Forms.{root_tree, part_tree}
-use Rattle.wide_translation.specs.Names.{pair_name, is_taken}
+use Rattle.wide_translation.specs.Names.{pair_name, is_taken, written_name}
 use Rattle.wide_translation.specs.Scope.{WideScope, Place, itself, part, unused}
 
 -- ---- parts of an optional value
@@ -71,7 +71,7 @@ WideHolds (refused e) o env = ⊤
 
 -- a name in scope has its value in the second environment, where it is written
 abbrev pub WideNamed : List ℕ → Option Place → Option Value → Environment → Type 0
-WideNamed n (Some (itself k)) (Some v) env = (name_value n env ≡ value v) × (has_kind k v ≡ true)
+WideNamed n (Some (itself k)) (Some v) env = (name_value (written_name n) env ≡ value v) × (has_kind k v ≡ true)
 WideNamed n (Some (part y i)) (Some v) env = meaning (part_tree y i) env ≡ value v
 WideNamed n (Some unused) (Some v) env = ⊤
 WideNamed n None None env = ⊤

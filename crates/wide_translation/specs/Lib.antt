@@ -22,4 +22,5 @@ pub mod Laws
 pub mod Written
 pub mod FormRows
 pub mod IndexRows
+pub mod NameRows
 pub mod Rows

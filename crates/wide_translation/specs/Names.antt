@@ -1,8 +1,7 @@
 -- Names that the translation uses itself.
-use Rattle.std.specs.Prelude.{ℕ, Bool, ◌||◌, List, ◌++◌, replicate, nat_eq, bytes_eq, codes}
+use Rattle.std.specs.Prelude.{ℕ, Bool, List, ◌++◌, replicate, nat_eq, codes, if◌then◌else◌}
 use Rattle.std.specs.List.{starts_with}
-use Rattle.cel_macros.specs.Environment.{is_root}
-use Rattle.cel_macros.specs.Macros.{variables_name}
+use Rattle.cel_macros.specs.MacroFault.{is_taken as is_reserved}
 
 -- the iteration name that the translation binds
 abbrev pub held_name : List ℕ
@@ -38,6 +37,11 @@ indices_field = codes "n"
 abbrev pub namespace_name : List ℕ
 namespace_name = codes "namespaceObject"
 
--- whether an iteration name is a root, `variables`, or begins as the names that the translation binds
+-- whether an iteration name begins as the names that the translation binds
 abbrev pub is_taken : List ℕ → Bool
-is_taken x = is_root x || bytes_eq variables_name x || starts_with nat_eq x (codes "celbpf_")
+is_taken x = starts_with nat_eq x (codes "celbpf_")
+
+-- the iteration name that x is written as: x itself, or one of the translation's if x is a root or `variables`, which the
+-- compiled language does not bind
+abbrev pub written_name : List ℕ → List ℕ
+written_name x = if is_reserved x then codes "celbpf_" ++ x else x

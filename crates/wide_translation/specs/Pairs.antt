@@ -11,7 +11,7 @@ use Rattle.wide_kinds.specs.declared.kind.ValueKind.{ValueKind}
 use Rattle.wide_kinds.specs.declared.kind.ValueKind.TheVariants as kind
 use Rattle.wide_translation.specs.Carried.{plain, NeedsIndices, Translation, taken, refused}
 use Rattle.wide_translation.specs.Forms.{call_tree, macro_tree, filter_map_tree}
-use Rattle.wide_translation.specs.Names.{index_name, pair_name, params_name, tables_field, indices_field}
+use Rattle.wide_translation.specs.Names.{index_name, pair_name, params_name, tables_field, indices_field, written_name}
 use Rattle.wide_translation.specs.Parts.{with_plain, once}
 use Rattle.wide_translation.specs.Scope.{WideScope, Place, itself, part, unused, enclosed}
 
@@ -37,7 +37,7 @@ chosen_name both k v y = y
 
 -- the iteration name of the macro that the translation writes
 abbrev pub pair_binder : PairUse → List ℕ → List ℕ → WideScope → List ℕ
-pair_binder u k v s = chosen_name u k v (pair_name (length s.names))
+pair_binder u k v s = chosen_name u (written_name k) (written_name v) (pair_name (length s.names))
 
 -- what the first name is written as, and the second; y is the name of the pair, a list of two items
 abbrev pub key_place : PairUse → List ℕ → Place

@@ -7,11 +7,12 @@ use Rattle.cel_reader.specs.declared.operator.BinaryOperator.TheVariants.{In}
 use Rattle.wide_reader.specs.Tree as wide
 use Rattle.wide_reader.specs.declared.wide.Macro.TheVariants as macro
 use Rattle.wide_kinds.specs.declared.kind.ValueKind.TheVariants as kind
-use Rattle.wide_meaning.specs.Written.{num, str, yes, name, dot, maybe, maybe_item, has, call, method, or_value, list_literal}
+use Rattle.wide_meaning.specs.Written.{num, str, name, dot, maybe, maybe_item, has, call, method, or_value, list_literal}
 use Rattle.wide_meaning.specs.Written.{object_spec}
-use Rattle.wide_translation.specs.Carried.{UnknownName, OptionalValue, TakenName, UnsignedInt}
+use Rattle.wide_translation.specs.Carried.{UnknownName, OptionalValue, UnsignedInt}
 use Rattle.wide_translation.specs.FormRows.{FormRowsHold}
 use Rattle.wide_translation.specs.IndexRows.{IndexRowsHold}
+use Rattle.wide_translation.specs.NameRows.{NameRowsHold}
 use Rattle.wide_translation.specs.Written.{Becomes, BecomesInCondition, BecomesWithVariables, WideIsRefused, plain_spec, plain_field, is_there}
 use Rattle.wide_translation.specs.Written.{field_or_nothing}
 
@@ -53,10 +54,6 @@ pub record TranslationRowsHold : Type 0 where
   pub unknown_name : WideIsRefused (name "authorizer") (UnknownName (codes "authorizer"))
   pub unknown_function : WideIsRefused (call "url" (str "a" ∷ [])) (UnknownName (codes "url"))
   pub no_optional_value : WideIsRefused (or_value (name "object") (num 1)) (UnknownName (codes "orValue"))
-  -- object.all(object, true)
-  pub taken_name : WideIsRefused (wide.fold macro.All (name "object") (codes "object") (num 1)) (TakenName (codes "object"))
-  -- object.all(celbpf_x, true)
-  pub taken_prefix : WideIsRefused (wide.fold macro.All (name "object") (codes "celbpf_x") yes) (TakenName (codes "celbpf_x"))
   -- namespaceObject and .namespaceObject in a match condition, and namespaceObject elsewhere
   pub no_namespace : BecomesInCondition (name "namespaceObject") kind.Dyn (plain.call "dyn" (plain.nothing ∷ []))
   pub no_root : BecomesInCondition (wide.root (codes "namespaceObject")) kind.Dyn (plain.call "dyn" (plain.nothing ∷ []))
@@ -67,6 +64,8 @@ pub record TranslationRowsHold : Type 0 where
   pub known_list : BecomesWithVariables (method (maybe_item (dot (name "variables") "l") (num 2)) "hasValue" []) kind.Bool
       (binary Less (plain.num 2)
       (plain.call "size" (binary Add (plain.dot (plain.name "variables") "l") (plain.list_literal []) ∷ [])))
+  -- iteration names of roots
+  pub names : NameRowsHold
   -- macros with two names, lists and optional entries
   pub forms : FormRowsHold
   -- computed indices

@@ -5,8 +5,8 @@ use Rattle.cel_macros.specs.Macros.{variables_name}
 use Rattle.wide_kinds.specs.declared.kind.Kind.{Kind}
 use Rattle.wide_kinds.specs.declared.kind.ValueKind.{ValueKind}
 
--- What an iteration name is written as: itself, and the kind of its value; the item i of the pair of another name;
--- nothing, if it may not be used
+-- What an iteration name is written as: itself, or the name that stands for it, and the kind of its value; the item i of
+-- the pair of another name; nothing, if it may not be used
 pub data Place : Type 0 where
   itself : ValueKind → Place
   part : List ℕ → ℕ → Place

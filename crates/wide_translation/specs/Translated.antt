@@ -49,7 +49,7 @@ pub use Rattle.wide_translation.specs.Parts.{keyed_more, entry_more, list_transl
 use Rattle.wide_translation.specs.Lists.{second, first_list_tree, last_list_tree, extreme_tree, contained_tree}
 use Rattle.wide_translation.specs.Lists.{meeting_tree, equivalent_tree, sets_translation}
 use Rattle.wide_translation.specs.ComputedIndices.{key_carried}
-use Rattle.wide_translation.specs.Names.{held_name, is_taken}
+use Rattle.wide_translation.specs.Names.{held_name, is_taken, written_name}
 use Rattle.wide_translation.specs.Scope.{WideScope, Place, itself, part, unused, within, is_hidden}
 use Rattle.wide_translation.specs.Uses.{uses}
 pub use Rattle.wide_translation.specs.Pairs.{PairUse, pair_use, pair_binder, within_pair, pair_translation}
@@ -63,7 +63,7 @@ root_translation s n = if is_root n then taken (plain kind.Dyn (root_tree s n)) 
 
 -- an iteration name that is written so
 abbrev pub place_translation : Place → List ℕ → Translation
-place_translation (itself k) n = taken (plain k (tree.name n))
+place_translation (itself k) n = taken (plain k (tree.name (written_name n)))
 place_translation (part y i) n = taken (plain kind.Dyn (part_tree y i))
 place_translation unused n = refused (UnknownName n)
 
@@ -358,11 +358,12 @@ unfoldable mutual
   translated s (wide.map es) = map_translation (entries_translated s es)
   translated s (wide.fold m r x p) =
       if is_taken x then refused (TakenName x)
-      else with_plain (translated s r) (λ k a. with_plain (translated (within x kind.Dyn s) p) (λ j b. taken (fold_carried m x a b)))
+      else with_plain (translated s r) (λ k a. with_plain (translated (within x kind.Dyn s) p)
+      (λ j b. taken (fold_carried m (written_name x) a b)))
   translated s (wide.filter_map r x p t) =
       if is_taken x then refused (TakenName x)
       else with_plain (translated s r) (λ k a. with_plain (translated (within x kind.Dyn s) p)
-      (λ j b. with_plain (translated (within x kind.Dyn s) t) (λ i c. taken (plain kind.List (filter_map_tree x a b c)))))
+      (λ j b. with_plain (translated (within x kind.Dyn s) t) (λ i c. taken (plain kind.List (filter_map_tree (written_name x) a b c)))))
   translated s (wide.call n es) = call_translation (function_named n) n (all_translated s es)
   translated s (wide.method a n es) =
       method_translation (qualified_named (namespace_in a) n) (method_named n) n (translated s a) (all_translated s es)
@@ -377,7 +378,7 @@ unfoldable mutual
   translated s (wide.optional_fold m a x t) =
       if is_taken x then refused (TakenName x)
       else with_carried (translated s a) (λ c. on_list OptionalValue c
-      (λ k l. with_carried (translated (within x kind.Dyn s) t) (optional_carried m x l)))
+      (λ k l. with_carried (translated (within x kind.Dyn s) t) (optional_carried m (written_name x) l)))
 
   -- the translation of each of the expressions
   pub all_translated : WideScope → Wides → List Translation

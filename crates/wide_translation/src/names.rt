@@ -1,8 +1,9 @@
-//! Names in scope, and names that an iteration name must not be.
+//! Names in scope, and what iteration names are written as.
 
 ghost use Rattle.std.specs.Prelude.{◌≡◌, IfOk, is_some, length, map, string_bytes};
 ghost use Rattle.cel_macros.specs.Environment as environment;
 ghost use Rattle.cel_macros.specs.Environment.{lookup};
+ghost use Rattle.cel_macros.specs.MacroFault.{is_taken as is_reserved_in};
 ghost use Rattle.cel_reader.specs.Words as words;
 ghost use Rattle.wide_translation.specs.Declarations.{declaration, scope_in};
 ghost use Rattle.wide_translation.specs.Names as specs;
@@ -66,11 +67,30 @@ pub(crate) fn is_root(name: &str) -> bool
         || name == "request"
 }
 
-/// Whether an iteration name is a root, `variables`, or begins as the names that the translation binds.
+/// Whether an iteration name begins as the names that the translation binds.
 pub(crate) fn is_taken(name: &str) -> bool
     ensures { result ≡ specs.is_taken name.now }
 {
-    is_root(name) || VARIABLES == name || name.starts_with("celbpf_")
+    name.starts_with("celbpf_")
+}
+
+/// Whether an iteration name is a root or `variables`, which the compiled expressions do not bind.
+fn is_reserved(name: &str) -> bool
+    ensures { result ≡ is_reserved_in name.now }
+{
+    is_root(name) || VARIABLES == name
+}
+
+/// The iteration name that an iteration name is written as.
+pub(crate) fn written_name(alloc: Global, name: &str) -> Result<String, AllocError>
+    ensures { IfOk result (λ n. string_bytes n ≡ specs.written_name name.now) }
+{
+    if is_reserved(name) {
+        let mut written = String::from_str(alloc, "celbpf_")?;
+        written.push_str(name)?;
+        return Ok(written);
+    }
+    String::from_str(alloc, name)
 }
 
 /// Whether the root `params` has tables beside the parameters.

@@ -16,7 +16,7 @@ ghost use Rattle.wide_translation.specs.Translated as specs;
 
 use crate::calls::unknown;
 use crate::carried::Carried;
-use crate::names::{Names, VARIABLES, is_root, variable_kind};
+use crate::names::{Names, VARIABLES, is_root, variable_kind, written_name};
 use crate::place::Place;
 use crate::translation_error::TranslationError;
 use crate::{build, built, copying};
@@ -51,7 +51,7 @@ fn written(alloc: Global, name: &str, place: &Place) -> Result<Carried, Translat
 {
     match place {
         Place::Itself(kind) => {
-            let tree = build::name(alloc, name)?;
+            let tree = Expr::Name(written_name(alloc, name)?);
             Ok(Carried::Plain(*kind, tree))
         }
         Place::Key(pair) => {

@@ -11,7 +11,7 @@ ghost use Rattle.wide_translation.specs.Uses.{uses};
 
 use crate::calls::taken_name;
 use crate::name_uses::uses;
-use crate::names::{Names, is_taken, pair_name};
+use crate::names::{Names, is_taken, pair_name, written_name};
 use crate::pair_use::PairUse;
 use crate::place::Place;
 use crate::together::three;
@@ -112,8 +112,8 @@ impl<'a> PairNames<'a> {
         ensures { IfOk result (λ n. string_bytes n ≡ specs.pair_binder (use_view self.now.used) self.now.key.now self.now.value.now (scope_in names.now)) }
     {
         match self.used {
-            PairUse::ValuesOnly => String::from_str(alloc, self.value),
-            PairUse::KeysOnly => String::from_str(alloc, self.key),
+            PairUse::ValuesOnly => written_name(alloc, self.value),
+            PairUse::KeysOnly => written_name(alloc, self.key),
             PairUse::Both => pair_name(alloc, names),
         }
     }

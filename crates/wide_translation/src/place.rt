@@ -5,7 +5,7 @@ use wide_kinds::ValueKind;
 /// How an iteration name is written.
 #[derive(Drop)]
 pub(crate) enum Place {
-    /// As itself. Its value is of this kind.
+    /// As itself, or as the name that stands for it. Its value is of this kind.
     Itself(ValueKind),
     /// As the first item of the pair of this name.
     Key(String),

@@ -13,7 +13,7 @@ ghost use Rattle.wide_translation.specs.Translated.{translated, all_translated, 
 use crate::calls::{taken_name, unknown, unknown_method};
 use crate::carried::Carried;
 use crate::lists::ListParts;
-use crate::names::{Names, hides_variables, is_taken};
+use crate::names::{Names, hides_variables, is_taken, written_name};
 use crate::naming::{compared_uint, denotes_variables, is_empty, name, qualified, root, variable};
 use crate::pair_names::{PairNames, PairScope, both_free};
 use crate::place::Place;
@@ -251,18 +251,20 @@ pub(crate) fn translation(
             if is_taken(item.as_str()) {
                 return Err(taken_name(alloc, item.as_str()));
             }
+            let binder = written_name(alloc, item.as_str())?;
             let of = translation(alloc, range, names);
             let body = in_macro(alloc, item.as_str(), part, names);
-            composed_macros::fold(alloc, *found, item.as_str(), of, body)
+            composed_macros::fold(alloc, *found, binder.as_str(), of, body)
         }
         Wide::FilterMap(range, item, predicate, transform) => {
             if is_taken(item.as_str()) {
                 return Err(taken_name(alloc, item.as_str()));
             }
+            let binder = written_name(alloc, item.as_str())?;
             let of = translation(alloc, range, names);
             let test = in_macro(alloc, item.as_str(), predicate, names);
             let body = in_macro(alloc, item.as_str(), transform, names);
-            composed_macros::filter_map(alloc, item.as_str(), of, test, body)
+            composed_macros::filter_map(alloc, binder.as_str(), of, test, body)
         }
         Wide::PairFold(found, range, key, value, part) => {
             both_free(alloc, key.as_str(), value.as_str())?;
@@ -285,9 +287,10 @@ pub(crate) fn translation(
             if is_taken(item.as_str()) {
                 return Err(taken_name(alloc, item.as_str()));
             }
+            let binder = written_name(alloc, item.as_str())?;
             let operand = translation(alloc, of, names);
             let body = in_macro(alloc, item.as_str(), part, names);
-            composed_macros::optional_fold(alloc, *found, item.as_str(), operand, body)
+            composed_macros::optional_fold(alloc, *found, binder.as_str(), operand, body)
         }
         Wide::Call(given, arguments) => { call(alloc, given.as_str(), arguments.as_slice(), names) }
         Wide::Method(of, given, arguments) => {

@@ -2,6 +2,7 @@
 use Rattle.std.proofs.Common.{◌∙◌, ap, sym, string_bytes, arith, rules}
 use Rattle.wide_meaning.specs.Functions.{function_named}
 use Rattle.wide_translation.specs.Declarations.{scope_in, carried_view, use_view}
+use Rattle.wide_translation.specs.Names.{written_name}
 use Rattle.wide_translation.specs.Segments.{after_parts}
 use Rattle.wide_translation.specs.Translated.{call_translation, qualified_translation, method_carried}
 use Rattle.wide_translation.proofs.ArmReturns.{has_returned, unary_returned, index_returned, binary_returned, ternary_returned, fold_returned as range_returned, filter_map_returned, optional_fold_returned}
@@ -92,9 +93,9 @@ translation-method-requires t c = (
 
 pub translation-returns-in_err-both_free-in-PairFold : goal.translation-returns-in_err-both_free-in-PairFold
 translation-returns-in_err-both_free-in-PairFold t c =
-    passed_on _ c.in_err-both_free-in-PairFold.field-0.0 c.from_residual.result
+    passed_on _ c.in_err-both_free-in-PairFold.field-0.0 c.from_residual-in_err-both_free-in-PairFold.result
     (fold_names_refused (scope_in c.args.names.now) c.args.e.now c.in-PairFold.found c.in-PairFold.range c.in-PairFold.key c.in-PairFold.value c.in-PairFold.part c.in-PairFold.is c.as_str-in-PairFold.result.now c.as_str-in-PairFold-2.result.now c.in_err-both_free-in-PairFold.field-0.0 c.as_str-in-PairFold.ensures.value c.as_str-in-PairFold-2.ensures.value c.in_err-both_free-in-PairFold.ensures.taken)
-    c.from_residual.ensures.0 c.from_residual.ensures.1
+    c.from_residual-in_err-both_free-in-PairFold.ensures.0 c.from_residual-in_err-both_free-in-PairFold.ensures.1
 
 pub translation-returns-in_ok-both_free-in-PairFold : goal.translation-returns-in_ok-both_free-in-PairFold
 translation-returns-in_ok-both_free-in-PairFold t c =
@@ -139,20 +140,20 @@ translation-returns-in-Ternary t c =
     ternary_returned (scope_in c.args.names.now) c.args.e.now c.in-Ternary.condition c.in-Ternary.yes c.in-Ternary.no c.in-Ternary.is c.deref-in-Ternary.result.now c.deref-in-Ternary-2.result.now c.deref-in-Ternary-3.result.now _
     c.deref-in-Ternary.ensures c.deref-in-Ternary-2.ensures c.deref-in-Ternary-3.ensures (c.ternary.ensures _ _ _ c.translation-test.ensures c.translation-first.ensures c.translation-in-Ternary.ensures)
 
-pub translation-returns-else-is_taken : goal.translation-returns-else-is_taken
-translation-returns-else-is_taken t c =
-    range_returned (scope_in c.args.names.now) c.args.e.now c.in-Fold.found c.in-Fold.range c.in-Fold.item c.in-Fold.part c.in-Fold.is c.deref-in-Fold.result.now c.deref-in-Fold-2.result.now c.as_str-in-Fold.result.now c.as_str-in-Fold-2.result.now c.as_str-in-Fold-3.result.now _
-    c.deref-in-Fold.ensures c.deref-in-Fold-2.ensures c.as_str-in-Fold.ensures.value c.as_str-in-Fold-2.ensures.value c.as_str-in-Fold-3.ensures.value (sym c.is_taken.ensures ∙ c.if-is_taken.false)
-    (c.fold.ensures _ _ c.translation-of.ensures c.in_macro-body.ensures)
+pub translation-returns-in_ok-binder-in-Fold : goal.translation-returns-in_ok-binder-in-Fold
+translation-returns-in_ok-binder-in-Fold t c =
+    range_returned (scope_in c.args.names.now) c.args.e.now c.in-Fold.found c.in-Fold.range c.in-Fold.item c.in-Fold.part c.in-Fold.is c.deref-in-Fold.result.now c.deref-in-Fold-2.result.now c.as_str-in-Fold.result.now c.as_str-in-Fold-3.result.now c.as_str-in-Fold-4.result.now _
+    c.deref-in-Fold.ensures c.deref-in-Fold-2.ensures c.as_str-in-Fold.ensures.value c.as_str-in-Fold-3.ensures.value (c.as_str-in-Fold-4.ensures.value ∙ c.in_ok-binder-in-Fold.ensures ∙ ap written_name c.as_str-in-Fold-2.ensures.value)
+    (sym c.is_taken.ensures ∙ c.if-is_taken.false) (c.fold.ensures _ _ c.translation-of.ensures c.in_macro-body.ensures)
 
-pub translation-returns-else-is_taken-2 : goal.translation-returns-else-is_taken-2
-translation-returns-else-is_taken-2 t c =
-    filter_map_returned (scope_in c.args.names.now) c.args.e.now c.in-FilterMap.range c.in-FilterMap.item c.in-FilterMap.predicate c.in-FilterMap.transform c.in-FilterMap.is c.deref-in-FilterMap.result.now c.deref-in-FilterMap-2.result.now c.deref-in-FilterMap-3.result.now c.as_str-in-FilterMap.result.now c.as_str-in-FilterMap-2.result.now c.as_str-in-FilterMap-3.result.now c.as_str-in-FilterMap-4.result.now _
-    c.deref-in-FilterMap.ensures c.deref-in-FilterMap-2.ensures c.deref-in-FilterMap-3.ensures c.as_str-in-FilterMap.ensures.value c.as_str-in-FilterMap-2.ensures.value c.as_str-in-FilterMap-3.ensures.value c.as_str-in-FilterMap-4.ensures.value (sym c.is_taken-in-FilterMap.ensures ∙ c.if-is_taken-2.false)
-    (c.filter_map.ensures _ _ _ c.translation-of-in-FilterMap.ensures c.in_macro-test.ensures c.in_macro-body-in-FilterMap.ensures)
+pub translation-returns-in_ok-binder-in-FilterMap : goal.translation-returns-in_ok-binder-in-FilterMap
+translation-returns-in_ok-binder-in-FilterMap t c =
+    filter_map_returned (scope_in c.args.names.now) c.args.e.now c.in-FilterMap.range c.in-FilterMap.item c.in-FilterMap.predicate c.in-FilterMap.transform c.in-FilterMap.is c.deref-in-FilterMap.result.now c.deref-in-FilterMap-2.result.now c.deref-in-FilterMap-3.result.now c.as_str-in-FilterMap.result.now c.as_str-in-FilterMap-3.result.now c.as_str-in-FilterMap-4.result.now c.as_str-in-FilterMap-5.result.now _
+    c.deref-in-FilterMap.ensures c.deref-in-FilterMap-2.ensures c.deref-in-FilterMap-3.ensures c.as_str-in-FilterMap.ensures.value c.as_str-in-FilterMap-3.ensures.value c.as_str-in-FilterMap-4.ensures.value (c.as_str-in-FilterMap-5.ensures.value ∙ c.in_ok-binder-in-FilterMap.ensures ∙ ap written_name c.as_str-in-FilterMap-2.ensures.value)
+    (sym c.is_taken-in-FilterMap.ensures ∙ c.if-is_taken-2.false) (c.filter_map.ensures _ _ _ c.translation-of-in-FilterMap.ensures c.in_macro-test.ensures c.in_macro-body-in-FilterMap.ensures)
 
-pub translation-returns-else-is_taken-3 : goal.translation-returns-else-is_taken-3
-translation-returns-else-is_taken-3 t c =
-    optional_fold_returned (scope_in c.args.names.now) c.args.e.now c.in-OptionalFold.found c.in-OptionalFold.of c.in-OptionalFold.item c.in-OptionalFold.part c.in-OptionalFold.is c.deref-in-OptionalFold.result.now c.deref-in-OptionalFold-2.result.now c.as_str-in-OptionalFold.result.now c.as_str-in-OptionalFold-2.result.now c.as_str-in-OptionalFold-3.result.now _
-    c.deref-in-OptionalFold.ensures c.deref-in-OptionalFold-2.ensures c.as_str-in-OptionalFold.ensures.value c.as_str-in-OptionalFold-2.ensures.value c.as_str-in-OptionalFold-3.ensures.value (sym c.is_taken-in-OptionalFold.ensures ∙ c.if-is_taken-3.false)
-    (c.optional_fold.ensures _ _ c.translation-operand-in-OptionalFold.ensures c.in_macro-body-in-OptionalFold.ensures)
+pub translation-returns-in_ok-binder-in-OptionalFold : goal.translation-returns-in_ok-binder-in-OptionalFold
+translation-returns-in_ok-binder-in-OptionalFold t c =
+    optional_fold_returned (scope_in c.args.names.now) c.args.e.now c.in-OptionalFold.found c.in-OptionalFold.of c.in-OptionalFold.item c.in-OptionalFold.part c.in-OptionalFold.is c.deref-in-OptionalFold.result.now c.deref-in-OptionalFold-2.result.now c.as_str-in-OptionalFold.result.now c.as_str-in-OptionalFold-3.result.now c.as_str-in-OptionalFold-4.result.now _
+    c.deref-in-OptionalFold.ensures c.deref-in-OptionalFold-2.ensures c.as_str-in-OptionalFold.ensures.value c.as_str-in-OptionalFold-3.ensures.value (c.as_str-in-OptionalFold-4.ensures.value ∙ c.in_ok-binder-in-OptionalFold.ensures ∙ ap written_name c.as_str-in-OptionalFold-2.ensures.value)
+    (sym c.is_taken-in-OptionalFold.ensures ∙ c.if-is_taken-3.false) (c.optional_fold.ensures _ _ c.translation-operand-in-OptionalFold.ensures c.in_macro-body-in-OptionalFold.ensures)
