@@ -17,7 +17,7 @@ const EXPRESSIONS = [
   "object.a in ('a', 'b')", "(object.a", "object.a)", "[object.a", "object.labels.my-app == 'x'", "object.a.length() == 3", "object.a.matches('x')",
   "object.a.split(',')[0] == 'a'", "size(1) == 1", "size() == 1", "object.a.startsWith() ", "'a'.startsWith(1)", "object.a.strtsWith('x')",
   "object.a.exist(x, x == 1)", "object.items.any(x, x.y == 1)", "object.items.every(x, x.y == 1)", "object.items.all(x)",
-  "object.items.all(1, true)", "object.items.all(object, true)", "has(object)", "has(object.a, 1)", "1.5 < object.a", "1u + 2u == 3u",
+  "object.items.all(1, true)", "object.items.all(celbpf_x, true)", "has(object)", "has(object.a, 1)", "1.5 < object.a", "1u + 2u == 3u",
   "b'abc' == object.a", "object.?a", "object.?a.orValue(1) == optional.of(1)", "object.a.orValue(1)", "optional.of(object.a)", "variables.x == 1",
   "variables.nope == 1", "authorizer.group('apps').resource('deployments').check('create').allowed()", "cel.bind(x, 1, x == 1)",
   "math.greatest(1, 2) == 2", "object.a.transformMap(k, v, v)", "object.a.all(k, v, v == 1)", "object.map(k, v, v)", "type(object.a) == string",

@@ -137,7 +137,7 @@ class Words(unittest.TestCase):
             ("variables.b", "W5", "b",
              ("no variable `b` is known here", "a variable that comes before; a match condition has none")),
             ("a.value()", "W5", "value", ("`value` follows an optional value alone", "`.?` before the field that it follows")),
-            ("l.all(object, true)", "W5", "object", ("`object` is not taken as the name of an item", "another name")),
+            ("l.all(celbpf_x, true)", "W5", "celbpf_x", ("`celbpf_x` is not taken as the name of an item", "another name")),
             ("l.existsOne(x, true)", "W5", "existsOne", ("no API server up to 1.36 has `existsOne`", "`exists_one`")),
             ("{?k: o}", "W6", "",
              ("of a map at most three entries have a question mark, with keys that are texts, written out", "`has(e.f) ? {..} : {..}`")),
