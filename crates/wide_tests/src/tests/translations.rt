@@ -19,6 +19,15 @@ object.x in []¦false
 string(true)¦true ? 'true' : 'false'
 [1, ?object.?a, 2]¦[1] + ((object != null && has(object.a) ? [object.a] : []) + [2])
 object.l.all(x, x != '')¦object.l.all(x, x != '')
+object.l.all(object, object != '' && object != .object)¦object.l.all(celbpf_object, celbpf_object != '' && celbpf_object != object)
+object.l.exists(request, true) && request.a¦object.l.exists(celbpf_request, true) && request.a
+object.l.all(variables, variables.v == .variables.v)¦object.l.all(celbpf_variables, celbpf_variables.v == variables.v)
+object.l.all(oldObject, object.m.all(oldObject, oldObject == 1))¦object.l.all(celbpf_oldObject, object.m.all(celbpf_oldObject, celbpf_oldObject == 1))
+object.l.map(params, params > 1, params)¦object.l.map(celbpf_params, celbpf_params > 1, celbpf_params)
+{'a': 1}.all(object, request, request == 1)¦[{'a': 1}].map(celbpf_a, celbpf_a.map(celbpf_i, celbpf_a[celbpf_i]))[0].all(celbpf_request, celbpf_request == 1)
+{'a': 1}.all(params, v, params != 'b')¦{'a': 1}.all(celbpf_params, celbpf_params != 'b')
+variables.m.exists(object, params, object == params)¦variables.m.map(celbpf_i, [celbpf_i, variables.m[celbpf_i]]).exists(celbpf_p, celbpf_p[0] == celbpf_p[1])
+optional.of(1).optMap(params, params).value()¦[1].map(celbpf_params, celbpf_params)[0]
 variables.v + params.max¦variables.v + params.max
 variables.o.orValue(0)¦[variables.o].map(celbpf_a, celbpf_a == [] ? 0 : celbpf_a[0])[0]
 object.l.map(x, x.?n.orValue(x))¦object.l.map(x, x != null && has(x.n) ? x.n : x)
@@ -55,6 +64,7 @@ sets.intersects(variables.l, [1])¦[variables.l + []].map(celbpf_a, [[1] + []].m
 /// One row per line: a match condition, a broken bar and its translation.
 const CONDITIONS: &str = "namespaceObject == null¦dyn(null) == null
 object.l.all(x, .namespaceObject == x)¦object.l.all(x, dyn(null) == x)
+object.l.all(namespaceObject, namespaceObject == .namespaceObject)¦object.l.all(celbpf_namespaceObject, celbpf_namespaceObject == dyn(null))
 has(namespaceObject.f)¦[dyn(null)].map(celbpf_a, celbpf_a != null && has(celbpf_a.f))[0]
 params.max > 1¦params.max > 1";
 
@@ -63,7 +73,7 @@ const REFUSALS: &str = "name¦name is not supported here
 authorizer.path('/x')¦path is not supported here
 variables.none¦none is not supported here
 object.?a + 1¦an optional value cannot be used here
-object.l.all(object, true)¦object cannot be an iteration name here
+object.l.all(celbpf_a, true)¦celbpf_a cannot be an iteration name here
 1u + 1¦this unsigned int is not supported here
 object.m[?object.?k]¦an optional value cannot be used here
 object.m.all(k, v, k != v)¦the first name of this macro needs tables
