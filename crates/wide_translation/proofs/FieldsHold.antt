@@ -1,5 +1,5 @@
 -- Names, fields, and whether a field is there.
-use Rattle.std.proofs.Common.{◌≡◌, ℕ, Bool, true, false, List, length, Option, Some, None, if◌then◌else◌, is_some}
+use Rattle.std.proofs.Common.{◌≡◌, ℕ, Bool, true, false, List, Option, Some, None, if◌then◌else◌, is_some}
 use Rattle.std.proofs.Common.{unwrap_or, refl, ap, sym, ◌∙◌, subst}
 use Rattle.cel_reader.specs.Tree as tree
 use Rattle.cel_reader.specs.Tree.{Tree}
@@ -31,7 +31,7 @@ use Rattle.wide_translation.specs.Carried.{taken, refused}
 use Rattle.wide_translation.specs.Forms.{empty_tree, guarded_tree, present_tree, access_tree, field_list_tree}
 use Rattle.wide_translation.specs.Forms.{flat_tree, let_tree, held, is_simple, root_tree}
 use Rattle.wide_translation.specs.Holds.{guard_part, value_part, list_part, IsPlain, IsGuarded, IsListed, Carries}
-use Rattle.wide_translation.specs.Holds.{WideHolds, WideNamed, IsApart, Declared, WideStandsFor}
+use Rattle.wide_translation.specs.Holds.{WideHolds, WideNamed, Declared, WideStandsFor}
 use Rattle.wide_translation.specs.Names.{held_name}
 use Rattle.wide_translation.specs.Scope.{WideScope, Place, itself, part, unused, is_hidden}
 use Rattle.wide_translation.specs.Translated.{with_carried, on_plain, with_plain, on_list, root_translation}
