@@ -1,5 +1,5 @@
 -- Functions and methods that need no look-up.
-use Rattle.std.specs.Prelude.{ℕ, zero, pos, Bool, true, false, ◌&&◌, ◌||◌, List, [], ◌∷◌, Option, Some, None, find}
+use Rattle.std.specs.Prelude.{ℕ, zero, pos, negsuc, Bool, true, false, ◌&&◌, ◌||◌, List, [], ◌∷◌, Option, Some, None, find}
 use Rattle.std.specs.Prelude.{bytes_eq, codes, if◌then◌else◌}
 use Rattle.std.specs.Option.{option_or}
 use Rattle.cel_reader.specs.Words.{is_one_of}
@@ -19,6 +19,7 @@ use Rattle.wide_meaning.specs.declared.function.Method.{Method}
 use Rattle.wide_meaning.specs.declared.function.Method.TheVariants as method
 use Rattle.wide_meaning.specs.declared.function.Qualified.{Qualified}
 use Rattle.wide_meaning.specs.declared.function.Qualified.TheVariants as qualified
+use Rattle.wide_meaning.specs.ListMethods.{of_items, is_sorted, distinct, reversed, slice_of, places_of}
 use Rattle.wide_meaning.specs.Outcome.{Outcome, failed, plain, absent, present, outcome_of, plain_part, some_of}
 use Rattle.wide_meaning.specs.Outcome.{is_present, value_in, value_or, first_of}
 
@@ -49,6 +50,12 @@ method_name method.First = codes "first"
 method_name method.Last = codes "last"
 method_name method.Min = codes "min"
 method_name method.Max = codes "max"
+method_name method.IsSorted = codes "isSorted"
+method_name method.Distinct = codes "distinct"
+method_name method.Reverse = codes "reverse"
+method_name method.Slice = codes "slice"
+method_name method.IndexOf = codes "indexOf"
+method_name method.LastIndexOf = codes "lastIndexOf"
 
 -- the method of a text with this name, if any
 unfoldable pub text_method : List ℕ → Option Method
@@ -58,9 +65,18 @@ text_method n = find (λ m. bytes_eq (method_name m) n) (method.Size ∷ method.
 unfoldable pub optional_method : List ℕ → Option Method
 optional_method n = find (λ m. bytes_eq (method_name m) n) (method.HasValue ∷ method.Value ∷ method.OrValue ∷ method.Or ∷ [])
 
+-- the method of one item of a list with this name, if any, and that of all its items
+unfoldable pub item_method : List ℕ → Option Method
+item_method n = find (λ m. bytes_eq (method_name m) n) (method.First ∷ method.Last ∷ method.Min ∷ method.Max ∷ [])
+
+unfoldable pub items_method : List ℕ → Option Method
+items_method n =
+    find (λ m. bytes_eq (method_name m) n)
+    (method.IsSorted ∷ method.Distinct ∷ method.Reverse ∷ method.Slice ∷ method.IndexOf ∷ method.LastIndexOf ∷ [])
+
 -- the method of a list with this name, if any
 unfoldable pub list_method : List ℕ → Option Method
-list_method n = find (λ m. bytes_eq (method_name m) n) (method.First ∷ method.Last ∷ method.Min ∷ method.Max ∷ [])
+list_method n = option_or (item_method n) (items_method n)
 
 -- the method with this name, if any
 unfoldable pub method_named : List ℕ → Option Method
@@ -195,6 +211,13 @@ extreme_of order (value (list is)) =
     index_of (macro_of Filter (λ v. macro_of All (λ w. order (value v) (value w)) (list_of is)) (list_of is)) (value (int (pos 0)))
 extreme_of order _ = error
 
+-- The first or the last place of the items of a list that are equal to a value, or -1 if none is. What is r for a text,
+-- which has a method of that name too; the error for all else
+abbrev pub place_in : (Items → Outcome) → ValueOrError → ValueOrError → Outcome → Outcome
+place_in f (value (list is)) (value v) r = value_or (f (places_of v 0 is)) (plain (int (negsuc 0)))
+place_in f (value (text s)) y r = r
+place_in f _ _ r = failed
+
 -- a method applied to its operands; r for another number of them
 abbrev pub method_in : Method → Outcome → List Outcome → Outcome → Outcome
 method_in method.Size x [] r = outcome_of (size_of (plain_part x))
@@ -209,4 +232,10 @@ method_in method.First x [] r = item_of first_item (plain_part x)
 method_in method.Last x [] r = item_of last_item (plain_part x)
 method_in method.Min x [] r = outcome_of (extreme_of less_equal_of (plain_part x))
 method_in method.Max x [] r = outcome_of (extreme_of greater_equal_of (plain_part x))
+method_in method.IsSorted x [] r = outcome_of (of_items is_sorted (plain_part x))
+method_in method.Distinct x [] r = outcome_of (of_items distinct (plain_part x))
+method_in method.Reverse x [] r = outcome_of (of_items reversed (plain_part x))
+method_in method.Slice x (y ∷ z ∷ []) r = outcome_of (slice_of (plain_part x) (plain_part y) (plain_part z))
+method_in method.IndexOf x (y ∷ []) r = place_in first_item (plain_part x) (plain_part y) r
+method_in method.LastIndexOf x (y ∷ []) r = place_in last_item (plain_part x) (plain_part y) r
 method_in _ x ys r = r

@@ -4,6 +4,7 @@ pub mod Access
 pub mod Operators
 pub mod Ranges
 pub mod Environment
+pub mod ListMethods
 pub mod Functions
 pub mod Meaning
 pub mod Written

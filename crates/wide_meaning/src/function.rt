@@ -57,6 +57,18 @@ pub enum Method {
     Min,
     /// The greatest item of a list.
     Max,
+    /// Whether the items of a list are in ascending order.
+    IsSorted,
+    /// The items of a list that are equal to none before them.
+    Distinct,
+    /// The items of a list, the last one first.
+    Reverse,
+    /// The items of a list from one place up to another.
+    Slice,
+    /// The first place of a value in a list, or -1.
+    IndexOf,
+    /// The last place of a value in a list, or -1.
+    LastIndexOf,
 }
 
 impl Method {
@@ -88,10 +100,10 @@ impl Method {
         }
     }
 
-    /// The method of a list with this name.
-    #[tactic(auto, unfolding(crate::specs::Functions::list_method))]
-    fn of_list(name: &str) -> Option<Method>
-        ensures { result ≡ specs.list_method name.now }
+    /// The method of one item of a list with this name.
+    #[tactic(auto, unfolding(crate::specs::Functions::item_method))]
+    fn of_item(name: &str) -> Option<Method>
+        ensures { result ≡ specs.item_method name.now }
     {
         match name {
             "first" => Some(Method::First),
@@ -100,6 +112,43 @@ impl Method {
             "max" => Some(Method::Max),
             _ => None,
         }
+    }
+
+    /// The method of all items of a list with this name.
+    #[tactic(auto, unfolding(crate::specs::Functions::items_method))]
+    fn of_items(name: &str) -> Option<Method>
+        ensures { result ≡ specs.items_method name.now }
+    {
+        if "isSorted" == name {
+            return Some(Method::IsSorted);
+        }
+        if "distinct" == name {
+            return Some(Method::Distinct);
+        }
+        if "reverse" == name {
+            return Some(Method::Reverse);
+        }
+        if "slice" == name {
+            return Some(Method::Slice);
+        }
+        if "indexOf" == name {
+            return Some(Method::IndexOf);
+        }
+        if "lastIndexOf" == name {
+            return Some(Method::LastIndexOf);
+        }
+        None
+    }
+
+    /// The method of a list with this name.
+    #[tactic(auto, unfolding(crate::specs::Functions::list_method))]
+    fn of_list(name: &str) -> Option<Method>
+        ensures { result ≡ specs.list_method name.now }
+    {
+        if let Some(found) = Method::of_item(name) {
+            return Some(found);
+        }
+        Method::of_items(name)
     }
 
     /// The method of this name.
