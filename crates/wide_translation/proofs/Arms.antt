@@ -13,11 +13,8 @@ use Rattle.wide_reader.specs.Tree.{Wide}
 use Rattle.wide_reader.specs.declared.wide.Access.{Access}
 use Rattle.wide_reader.specs.declared.wide.Wide.{Wide as CodeWide}
 use Rattle.wide_reader.specs.declared.wide.Wide as code
-use Rattle.wide_meaning.specs.Functions.{method_name}
 use Rattle.wide_meaning.specs.Meaning.{is_empty_list}
 use Rattle.wide_meaning.specs.declared.function.Function.{Function}
-use Rattle.wide_meaning.specs.declared.function.Method.{Method}
-use Rattle.wide_meaning.specs.declared.function.Method.TheVariants as method
 use Rattle.wide_meaning.specs.declared.function.Qualified.{Qualified}
 use Rattle.wide_meaning.specs.declared.function.Qualified.TheVariants as qualified
 use Rattle.wide_translation.specs.declared.carried.Carried.{Carried as CodeCarried}
@@ -29,7 +26,6 @@ use Rattle.wide_translation.specs.Lists.{sets_translation}
 use Rattle.wide_translation.specs.Scope.{WideScope}
 use Rattle.wide_translation.specs.Translated.{on_plain, with_plain, equality, plain_binary, binary_carried, operand}
 use Rattle.wide_translation.specs.Translated.{function_carried, call_translation, qualified_translation}
-use Rattle.wide_translation.specs.Translated.{method_carried}
 use Rattle.wide_translation.specs.Translated.{index_carried, count_index, count_literal}
 unfoldable use Rattle.wide_translation.specs.Translated.{translated, all_translated}
 use Rattle.wide_translation.proofs.WideViews.{view_list}
@@ -97,16 +93,6 @@ none_of_two qualified.SetsEquivalent n t u h = absurd (cc)
 none_of_two qualified.OptionalOf n t u h = refl
 none_of_two _ n t u h = refl
 
-method_refused : (m : Method) (c : Carried) (t u : Translation) (ts : List Translation) → method_carried m c (t ∷ u ∷ ts) ≡ refused (UnknownName (method_name m))
-method_refused method.Size c t u ts = refl
-method_refused _ c t u ts = refl
-
-pub method_of_many : (m : Method) (c : Carried) (es : List CodeWide) (s : WideScope) → 1 < length es
-    → method_carried m c (all_translated s (wide.wides (map wide.view es))) ≡ refused (UnknownName (method_name m))
-unfolding all_translated
-method_of_many m c (a ∷ b ∷ es) s h = method_refused m c _ _ _
-method_of_many m c _ s h = absurd (omega arith)
-
 pub counted : (z : ℤ) (o : Access) (c d : Carried) (r : Result CodeCarried TranslationError) → pos 0 ≤ℤ z → ((n : ℕ) → z ≡ pos n → ReturnsCarried (count_index n o c d) r)
     → ReturnsCarried (index_carried None (count_literal (wide.literal (node.int z))) o c d) r
 counted (pos n) o c d r h f = f n refl
@@ -136,7 +122,7 @@ all_of_one s [] a h is = absurd (omega arith)
 all_of_one s (b ∷ []) a h is = ap (λ (x : CodeWide). translated s (wide.view x) ∷ []) (sym is)
 all_of_one s (b ∷ d ∷ es) a h is = absurd (omega arith)
 
-all_of_two : (s : WideScope) (es : List CodeWide) (a b : CodeWide) → length es ≡ 2 → a ≡ get_or es 0 a → b ≡ get_or es 1 b
+pub all_of_two : (s : WideScope) (es : List CodeWide) (a b : CodeWide) → length es ≡ 2 → a ≡ get_or es 0 a → b ≡ get_or es 1 b
     → all_translated s (wide.wides (map wide.view es)) ≡ translated s (wide.view a) ∷ translated s (wide.view b) ∷ []
 unfolding all_translated
 all_of_two s (c ∷ d ∷ []) a b h is also = λ j. translated s (wide.view (sym is j)) ∷ translated s (wide.view (sym also j)) ∷ []
@@ -144,7 +130,7 @@ all_of_two s [] a b h is also = absurd (omega arith)
 all_of_two s (c ∷ []) a b h is also = absurd (omega arith)
 all_of_two s (c ∷ d ∷ f ∷ es) a b h is also = absurd (omega arith)
 
-returns_at : (t u : Translation) (r : Result CodeCarried TranslationError) → t ≡ u → ReturnsCarried t r → ReturnsCarried u r
+pub returns_at : (t u : Translation) (r : Result CodeCarried TranslationError) → t ≡ u → ReturnsCarried t r → ReturnsCarried u r
 returns_at t u r h x = subst (λ (y : Translation). ReturnsCarried y r) h x
 
 pub none_returns : (f : List Translation → Translation) (s : WideScope) (es : List CodeWide) (r : Result CodeCarried TranslationError) → length es < 1

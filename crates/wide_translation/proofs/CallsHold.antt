@@ -1,6 +1,7 @@
 -- Functions and methods.
 use Rattle.std.proofs.Common.{◌≡◌, ℕ, Bool, true, false, List, [], ◌∷◌, Option, Some, None, codes, pos, if◌then◌else◌}
 use Rattle.std.proofs.Common.{refl, ap, ◌∙◌}
+use Rattle.std.specs.Option.{option_map_or}
 use Rattle.cel_reader.specs.Tree as tree
 use Rattle.cel_reader.specs.Tree.{Tree, no_trees, more_trees}
 use Rattle.value_store.specs.Value.{Value, ValueOrError, error, value, null, boolean, int, text, list, map, no_items}
@@ -32,10 +33,13 @@ use Rattle.wide_kinds.specs.Fitting.{FitsKind, IsOfKind, IsOptionalOf}
 use Rattle.wide_translation.specs.Carried.{Carried, plain, guarded, listed, Translation, taken, refused}
 use Rattle.wide_translation.specs.Forms.{call_tree, text_tree, first_tree, let_tree, held, is_empty_tree, is_simple}
 use Rattle.wide_translation.specs.Holds.{guard_part, value_part, list_part, IsPlain, Carries, WideHolds}
-use Rattle.wide_translation.specs.Names.{held_name}
+use Rattle.wide_translation.specs.Indexed.{CoversIf}
+use Rattle.wide_translation.specs.Names.{held_name, second_name}
+use Rattle.wide_translation.specs.Pairs.{table_tree}
 use Rattle.wide_translation.specs.Translated.{once, string_tree, function_carried, call_translation, value_carried}
-use Rattle.wide_translation.specs.Translated.{or_value_carried, test_translation, method_carried, method_translation}
+use Rattle.wide_translation.specs.Translated.{or_value_carried, test_translation, method_carried, method_of, method_translation}
 use Rattle.wide_translation.specs.Translated.{with_plain}
+use Rattle.wide_translation.specs.Uses.{is_by_place}
 use Rattle.wide_translation.proofs.FieldsHold.{part_fits, plain_holds, with_holds, on_plain_holds, with_plain_holds}
 use Rattle.wide_translation.proofs.FieldsHold.{has_value_holds}
 use Rattle.wide_translation.proofs.OperatorsHold.{first_kind, second_kind}
@@ -44,6 +48,7 @@ use Rattle.wide_translation.specs.Translated.{bool_of_kind}
 use Rattle.wide_translation.proofs.FormsHold.{bool_means, bool_kind, bool_free}
 use Rattle.wide_translation.specs.Lists.{first_list_tree, last_list_tree, extreme_tree}
 use Rattle.wide_translation.proofs.ListsHold.{first_holds, last_holds, extreme_holds}
+use Rattle.wide_translation.proofs.ListMethodForms.{method_or_holds}
 use Rattle.wide_translation.proofs.OptionalHold.{AllHold, or_holds, qualified_holds}
 use Rattle.wide_translation.proofs.Steps.{MeansBy, once_means, on_value, let_means, held_is}
 
@@ -324,10 +329,21 @@ method_holds method.Max c x [] [] r env h i s =
     (λ k a q. extreme_holds operator.GreaterEqual k a x env q)
 method_holds method.Max c x [] (y ∷ ys) r env h i s = absurd i
 method_holds method.Max c x (t ∷ ts) ys r env h i s = tt
+method_holds method.IsSorted c x ts xs r env h i s = tt
+method_holds method.Distinct c x ts xs r env h i s = tt
+method_holds method.Reverse c x ts xs r env h i s = tt
+method_holds method.Slice c x ts xs r env h i s = tt
+method_holds method.IndexOf c x ts xs r env h i s = tt
+method_holds method.LastIndexOf c x ts xs r env h i s = tt
 
-pub method_called_holds : (q : Option Qualified) (m : Option Method) (n : List ℕ) (t : Translation) (x : Outcome) (ts : List Translation) (xs : List Outcome) (r : Outcome) (env : Environment)
-    → WideHolds t x env → AllHold ts xs env → ((v : Value) → AllHold ts xs (bind held_name v env)) → WideHolds (method_translation q m n t ts) (method_called q m x xs r) env
-method_called_holds (Some q) m n t x ts xs r env h i s = qualified_holds q n ts xs r env i s
-method_called_holds None None n t x ts xs r env h i s = tt
-method_called_holds None (Some m) n t x ts xs r env h i s =
-    with_holds t (λ c. method_carried m c ts) x (method_in m x xs r) env h (λ c g. method_holds m c x ts xs r env g i s)
+-- the table of indices is y
+module _ (y : ValueOrError) where
+  pub method_called_holds : (b : Bool) (q : Option Qualified) (m : Option Method) (n : List ℕ) (t : Translation) (x : Outcome) (ts : List Translation) (xs : List Outcome) (r : Outcome) (env : Environment)
+      → (b ≡ true → CoversIf (option_map_or is_by_place m false) y (plain_part x)) → meaning table_tree env ≡ y → WideHolds t x env → AllHold ts xs env
+      → ((v : Value) → AllHold ts xs (bind held_name v env)) → ((v w : Value) → AllHold ts xs (bind second_name w (bind held_name v env)))
+      → WideHolds (method_translation b q m n t ts) (method_called q m x xs r) env
+  method_called_holds b (Some q) m n t x ts xs r env k l h i s d = qualified_holds q n ts xs r env i s
+  method_called_holds b None None n t x ts xs r env k l h i s d = tt
+  method_called_holds b None (Some m) n t x ts xs r env k l h i s d =
+      with_holds t (λ c. method_of b m c ts) x (method_in m x xs r) env h
+      (λ c g. method_or_holds y b m c x ts xs (method_carried m c ts) r env k l g s d (method_holds m c x ts xs r env g i s))

@@ -20,7 +20,7 @@ use Rattle.wide_kinds.specs.Fitting.{has_kind}
 use Rattle.wide_translation.specs.Forms.{null_tree, placed_tree, root_tree, part_tree}
 use Rattle.wide_translation.specs.Holds.{WideNamed, IsApart, WideStandsFor}
 use Rattle.wide_translation.specs.Names.{held_name, index_name, pair_name, namespace_name, params_name, params_field, tables_field}
-use Rattle.wide_translation.specs.Names.{indices_field, is_taken, written_name}
+use Rattle.wide_translation.specs.Names.{indices_field, second_name, third_name, is_taken, written_name}
 use Rattle.wide_translation.specs.Pairs.{PairUse, table_tree, values_only, keys_only, both, pair_binder, within_pair}
 use Rattle.wide_translation.specs.Scope.{WideScope, Place, itself, part, unused, within}
 use Rattle.wide_translation.proofs.WrittenNames.{unlike, not_written, pair_end_is_free, written_apart, written_and_pair}
@@ -134,6 +134,18 @@ index_is_fresh s = record { root = refl; name = λ n h. not_written (codes "i") 
 pub index_is_no_root : is_root index_name ≡ false
 unfolding is_root
 index_is_no_root = refl
+
+pub second_is_fresh : (s : WideScope) → IsFresh s second_name
+unfolding is_root
+second_is_fresh s = record { root = refl; name = λ n h. not_written (codes "b") n refl h; pair = λ d h. refl }
+
+pub second_is_no_root : is_root second_name ≡ false
+unfolding is_root
+second_is_no_root = refl
+
+pub third_is_no_root : is_root third_name ≡ false
+unfolding is_root
+third_is_no_root = refl
 
 pub pair_is_no_root : (d : ℕ) → is_root (pair_name d) ≡ false
 unfolding is_root

@@ -12,18 +12,9 @@ use Rattle.wide_translation.specs.Holds.{IsPlain, Carries, WideHolds, WideStands
 use Rattle.wide_translation.specs.Names.{second_name}
 use Rattle.wide_translation.specs.Scope.{WideScope}
 use Rattle.wide_translation.specs.Translated.{with_carried, on_plain}
-use Rattle.wide_translation.proofs.Environments.{IsFresh, fresh_bound}
-use Rattle.wide_translation.proofs.WrittenNames.{not_written}
+use Rattle.wide_translation.proofs.Environments.{fresh_bound, second_is_fresh}
 
 -- ---- the second name
-
-pub second_is_no_root : is_root second_name ≡ false
-unfolding is_root
-second_is_no_root = refl
-
-second_is_fresh : (s : WideScope) → IsFresh s second_name
-unfolding is_root
-second_is_fresh s = record { root = refl; name = λ n h. not_written (codes "b") n refl h; pair = λ d h. refl }
 
 pub second_bound : (s : WideScope) (v : Value) (env : WideEnvironment) (env' : Environment) → WideStandsFor s env env' → WideStandsFor s env (bind second_name v env')
 second_bound s v env env' r = fresh_bound s second_name v env env' (second_is_fresh s) r

@@ -15,6 +15,10 @@ pub mod EachItem
 pub mod RangesHold
 pub mod PairForms
 pub mod PairLists
+pub mod Places
+pub mod PlacesChosen
+pub mod ListMethodsHold
+pub mod ListMethodForms
 pub mod PairRanges
 pub mod PairFolds
 pub mod KeyValues
@@ -26,11 +30,13 @@ pub mod Finished
 pub mod WideViews
 pub mod Depths
 pub mod Arms
+pub mod MethodArms
 pub mod ItemSteps
 pub mod EntrySteps
 pub mod UseSteps
 pub mod PairNames
 pub mod PairSteps
+pub mod TableSteps
 pub mod PairReturns
 pub mod IndexForms
 pub mod ArmReturns

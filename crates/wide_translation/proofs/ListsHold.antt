@@ -42,7 +42,7 @@ use Rattle.wide_translation.proofs.Steps.{on_value, macro_means, let_means, held
 -- ---- lists
 
 -- what follows from a list; the error for all else
-abbrev on_items : (Items → ValueOrError) → ValueOrError → ValueOrError
+abbrev pub on_items : (Items → ValueOrError) → ValueOrError → ValueOrError
 on_items f (value (list is)) = f is
 on_items f _ = error
 
@@ -59,7 +59,7 @@ list_only f (value (text s)) = refl
 list_only f (value (list is)) = ap (λ js. f (list js)) (join_nothing is)
 list_only f (value (map es)) = refl
 
-list_let_means : (n : List ℕ) (a b : Tree) (env : Environment) → meaning (list_let n a b) env ≡ on_items (λ is. meaning b (bind n (list is) env)) (meaning a env)
+pub list_let_means : (n : List ℕ) (a b : Tree) (env : Environment) → meaning (list_let n a b) env ≡ on_items (λ is. meaning b (bind n (list is) env)) (meaning a env)
 unfolding meaning meanings
 list_let_means n a b env = let_means n (tree.binary operator.Add a empty_tree) b env ∙ list_only (λ v. meaning b (bind n v env)) (meaning a env)
 

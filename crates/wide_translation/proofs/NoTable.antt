@@ -10,7 +10,7 @@ use Rattle.wide_meaning.specs.Outcome.{Outcome, failed, plain, absent, present, 
 use Rattle.wide_meaning.specs.Ranges.{pairs_of}
 use Rattle.wide_translation.specs.Indexed.{CoversIf, ForPresent, IsTabled}
 unfoldable use Rattle.wide_translation.specs.Indexed.{Indexed, AllIndexed, ItemsIndexed, EntriesIndexed}
-use Rattle.wide_translation.specs.Uses.{uses}
+use Rattle.wide_translation.specs.Uses.{uses, needs_indices}
 unfoldable use Rattle.wide_translation.specs.Uses.{uses_keys, any_uses_keys, items_use_keys, entries_use_keys}
 use Rattle.wide_translation.proofs.EachItem.{for_each}
 use Rattle.wide_translation.proofs.WrittenNames.{or_left, or_right}
@@ -77,7 +77,12 @@ module _ (others : Wide → WideEnvironment → Outcome) (y : ValueOrError) wher
       for_present (λ v. Indexed others y t (bound x v env)) (wide_meaning others a env) (λ v. without t (bound x v env) (or_right (uses_keys a) (uses_keys t) h)),
     )
     without (wide.call n es) env h = all_without es env h
-    without (wide.method a n es) env h = (without a env (or_left (uses_keys a) (any_uses_keys es) h), all_without es env (or_right (uses_keys a) (any_uses_keys es) h))
+    without (wide.method a n es) env h =
+        let l : (uses_keys a || needs_indices n) ≡ false = or_left (uses_keys a || needs_indices n) (any_uses_keys es) h in (
+          without a env (or_left (uses_keys a) (needs_indices n) l),
+          covers_nothing (needs_indices n) y (plain_part (wide_meaning others a env)) (or_right (uses_keys a) (needs_indices n) l),
+          all_without es env (or_right (uses_keys a || needs_indices n) (any_uses_keys es) h),
+        )
 
     all_without : (es : Wides) (env : WideEnvironment) → any_uses_keys es ≡ false → AllIndexed others y es env
     all_without wide.no_wides env h = tt

@@ -105,7 +105,7 @@ abbrev pub any_pairs_in : ValueOrError → ValueOrError → ValueOrError
 any_pairs_in y x =
     ternary_of (is_list x) (over_items plain_macro.Map (λ w. list_literal (value w ∷ index_of x (value w) ∷ [])) (range_of (indices_in y x))) (pairs_in_map x)
 
-indices_mean : (y : ValueOrError) → MeansOver y indices_tree (indices_in y)
+pub indices_mean : (y : ValueOrError) → MeansOver y indices_tree (indices_in y)
 unfolding meaning is_has function_named
 indices_mean y a env t h =
     macro_means plain_macro.Filter index_name table_tree (tree.binary Less here (call_tree (codes "size") a)) env

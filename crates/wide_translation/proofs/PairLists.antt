@@ -23,11 +23,11 @@ use Rattle.wide_translation.proofs.PairForms.{is_list, values_in_map, pairs_in_m
 
 -- ---- lists
 
-list_again : (vs : List Value) → list_of (items_of vs) ≡ vs
+pub list_again : (vs : List Value) → list_of (items_of vs) ≡ vs
 list_again [] = refl
 list_again (v ∷ vs) = ap (λ ws. v ∷ ws) (list_again vs)
 
-items_again : (is : Items) → items_of (list_of is) ≡ is
+pub items_again : (is : Items) → items_of (list_of is) ≡ is
 items_again no_items = refl
 items_again (item v is) = ap (item v) (items_again is)
 
@@ -119,7 +119,7 @@ some_below n i (suc l) (suc m) e h =
     else filter (λ w. is_yes (truth (less_than n w))) (ints_from (suc i) m))
     ∙ ap (λ ws. int (pos i) ∷ ws) (some_below n (suc i) l m (omega (arith, e)) (omega (arith, h)))
 
-bool_is_known : (b : Bool) → is_other (truth (value (boolean b))) ≡ false
+pub bool_is_known : (b : Bool) → is_other (truth (value (boolean b))) ≡ false
 bool_is_known true = refl
 bool_is_known false = refl
 
@@ -127,7 +127,7 @@ all_known : (n i m : ℕ) → list_any (λ w. is_other (truth (less_than n w))) 
 all_known n i zero = refl
 all_known n i (suc m) = λ j. bool_is_known (int_lt (pos i) (pos n)) j || all_known n (suc i) m j
 
-indices_kept : (n m : ℕ) → n ≤ m → over_items plain_macro.Filter (λ w. less_than n w) (Some (ints_from 0 m)) ≡ value (list (items_of (ints_from 0 n)))
+pub indices_kept : (n m : ℕ) → n ≤ m → over_items plain_macro.Filter (λ w. less_than n w) (Some (ints_from 0 m)) ≡ value (list (items_of (ints_from 0 n)))
 indices_kept n m h = λ j. if all_known n 0 m j then error else list_or_error (Some (some_below n 0 n m (omega arith) h j))
 
 pub indices_of_list : (is : Items) (y : ValueOrError) → Covers y (value (list is)) → range_of (indices_in y (value (list is))) ≡ Some (ints_from 0 (length (list_of is)))

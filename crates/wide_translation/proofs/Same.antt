@@ -42,9 +42,10 @@ unfoldable use Rattle.wide_translation.specs.Translated.{translated, all_transla
 unfoldable use Rattle.wide_translation.specs.Translated.{entries_translated}
 use Rattle.wide_translation.proofs.EachItem.{each_later}
 use Rattle.wide_translation.proofs.Environments.{both_bound, held_bound, held_is_no_root, fresh_bound}
-use Rattle.wide_translation.proofs.Environments.{index_is_fresh, index_is_no_root, pair_bound, binder_is_no_root}
+use Rattle.wide_translation.proofs.Environments.{index_is_fresh, index_is_no_root, second_is_fresh, second_is_no_root}
+use Rattle.wide_translation.proofs.Environments.{pair_bound, binder_is_no_root}
 use Rattle.wide_translation.proofs.Environments.{picked, table_stays}
-use Rattle.wide_translation.proofs.Kept.{with_kept, second_bound, second_is_no_root}
+use Rattle.wide_translation.proofs.Kept.{with_kept, second_bound}
 use Rattle.wide_translation.proofs.NoTable.{indexed}
 use Rattle.wide_translation.proofs.WrittenNames.{written_is_no_root}
 use Rattle.wide_translation.proofs.FieldsHold.{plain_holds, with_holds, with_plain_holds, on_list_holds, root_holds}
@@ -277,9 +278,11 @@ module _ (others : Wide → WideEnvironment → Outcome) where
       same (wide.call n es) s env env' r t g =
           call_holds (function_named n) n (all_translated s es) (wide_meanings others es env) (others (wide.call n es) env) env' (all_same es s env env' r t g)
       same (wide.method a n es) s env env' r t g =
-          method_called_holds (qualified_named (namespace_in a) n) (method_named n) n (translated s a) (wide_meaning others a env) (all_translated s es) (wide_meanings others es env)
-          (others (wide.method a n es) env) env' (same a s env env' r t (λ w. (g w).0)) (all_same es s env env' r t (λ w. (g w).1))
-          (λ v. all_same es s env (bind held_name v env') (held_bound s v env env' r) (table_stays held_name v env' held_is_no_root ∙ t) (λ w. (g w).1))
+          method_called_holds y s.wrapped (qualified_named (namespace_in a) n) (method_named n) n (translated s a) (wide_meaning others a env) (all_translated s es) (wide_meanings others es env)
+          (others (wide.method a n es) env) env' (λ w. (g w).1) t (same a s env env' r t (λ w. (g w).0)) (all_same es s env env' r t (λ w. (g w).2))
+          (λ v. all_same es s env (bind held_name v env') (held_bound s v env env' r) (table_stays held_name v env' held_is_no_root ∙ t) (λ w. (g w).2))
+          (λ v z. all_same es s env (bind second_name z (bind held_name v env')) (fresh_bound s second_name z env (bind held_name v env') (second_is_fresh s) (held_bound s v env env' r))
+          (table_stays second_name z (bind held_name v env') second_is_no_root ∙ table_stays held_name v env' held_is_no_root ∙ t) (λ w. (g w).2))
 
       all_same : (es : Wides) (s : WideScope) (env : WideEnvironment) (env' : Environment) → WideStandsFor s env env' → meaning table_tree env' ≡ y → (s.wrapped ≡ true → AllIndexed others y es env)
           → AllHold (all_translated s es) (wide_meanings others es env) env'

@@ -10,7 +10,7 @@ use Rattle.wide_meaning.specs.Environment.{WideEnvironment, bound}
 use Rattle.wide_meaning.specs.Meaning.{wide_meaning}
 use Rattle.wide_meaning.specs.Outcome.{Outcome, present, plain_part}
 use Rattle.wide_meaning.specs.Ranges.{pairs_of}
-use Rattle.wide_translation.specs.Uses.{uses, uses_keys}
+use Rattle.wide_translation.specs.Uses.{uses, uses_keys, needs_indices}
 
 -- the ints i, i + 1, .., n of them
 abbrev pub ints_from : ℕ → ℕ → List Value
@@ -22,7 +22,7 @@ abbrev pub Covers : ValueOrError → ValueOrError → Type 0
 Covers table (value (list is)) = (m : ℕ) × (table ≡ value (list (items_of (ints_from 0 m)))) × (length (list_of is) ≤ m)
 Covers table _ = ⊤
 
--- the same if a macro uses the first of its two names
+-- the same if a macro uses the first of its two names, or a method the places
 abbrev pub CoversIf : Bool → ValueOrError → ValueOrError → Type 0
 CoversIf true table x = Covers table x
 CoversIf false table x = ⊤
@@ -40,7 +40,7 @@ ForPresent P _ = ⊤
 module _ (others : Wide → WideEnvironment → Outcome) (table : ValueOrError) where
   unfoldable mutual
     -- the table has enough ints for each list that a macro with two names in the expression ranges over, if it uses the
-    -- first of them
+    -- first of them, and for the list of each method that looks at its places
     pub Indexed : Wide → WideEnvironment → Type 0
     Indexed (wide.literal l) env = ⊤
     Indexed (wide.uint n) env = ⊤
@@ -68,7 +68,8 @@ module _ (others : Wide → WideEnvironment → Outcome) (table : ValueOrError) 
         × ForEach (λ e. Indexed t (bound v e.1 (bound k e.0 env))) (pairs_of (plain_part (wide_meaning others r env)))
     Indexed (wide.optional_fold m a x t) env = Indexed a env × ForPresent (λ v. Indexed t (bound x v env)) (wide_meaning others a env)
     Indexed (wide.call n es) env = AllIndexed es env
-    Indexed (wide.method a n es) env = Indexed a env × AllIndexed es env
+    Indexed (wide.method a n es) env =
+        Indexed a env × CoversIf (needs_indices n) table (plain_part (wide_meaning others a env)) × AllIndexed es env
 
     -- for each of the expressions
     pub AllIndexed : Wides → WideEnvironment → Type 0

@@ -12,6 +12,7 @@ pub mod Uses
 pub mod Pairs
 pub mod Lists
 pub mod ComputedIndices
+pub mod ListMethods
 pub mod Translated
 pub mod Keys
 pub mod Holds
@@ -23,4 +24,5 @@ pub mod Written
 pub mod FormRows
 pub mod IndexRows
 pub mod NameRows
+pub mod ListMethodRows
 pub mod Rows

@@ -15,6 +15,10 @@ index_name = codes "celbpf_i"
 abbrev pub second_name : List ℕ
 second_name = codes "celbpf_b"
 
+-- a third one
+abbrev pub third_name : List ℕ
+third_name = codes "celbpf_c"
+
 -- the iteration name of a pair inside of n iteration names: different for each n
 abbrev pub pair_name : ℕ → List ℕ
 pair_name n = codes "celbpf_p" ++ replicate n 112

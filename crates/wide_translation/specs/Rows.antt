@@ -13,6 +13,7 @@ use Rattle.wide_translation.specs.Carried.{UnknownName, OptionalValue, UnsignedI
 use Rattle.wide_translation.specs.FormRows.{FormRowsHold}
 use Rattle.wide_translation.specs.IndexRows.{IndexRowsHold}
 use Rattle.wide_translation.specs.NameRows.{NameRowsHold}
+use Rattle.wide_translation.specs.ListMethodRows.{ListMethodRowsHold}
 use Rattle.wide_translation.specs.Written.{Becomes, BecomesInCondition, BecomesWithVariables, WideIsRefused, plain_spec, plain_field, is_there}
 use Rattle.wide_translation.specs.Written.{field_or_nothing}
 
@@ -70,3 +71,5 @@ pub record TranslationRowsHold : Type 0 where
   pub forms : FormRowsHold
   -- computed indices
   pub indices : IndexRowsHold
+  -- methods of lists that use the table of indices
+  pub list_methods : ListMethodRowsHold

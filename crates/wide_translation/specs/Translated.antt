@@ -49,6 +49,7 @@ pub use Rattle.wide_translation.specs.Parts.{keyed_more, entry_more, list_transl
 use Rattle.wide_translation.specs.Lists.{second, first_list_tree, last_list_tree, extreme_tree, contained_tree}
 use Rattle.wide_translation.specs.Lists.{meeting_tree, equivalent_tree, sets_translation}
 use Rattle.wide_translation.specs.ComputedIndices.{key_carried}
+use Rattle.wide_translation.specs.ListMethods.{method_or}
 use Rattle.wide_translation.specs.Names.{held_name, is_taken, written_name}
 use Rattle.wide_translation.specs.Scope.{WideScope, Place, itself, part, unused, within, is_hidden}
 use Rattle.wide_translation.specs.Uses.{uses}
@@ -266,11 +267,15 @@ method_carried method.Min c [] = on_plain c (λ k a. taken (plain kind.Dyn (extr
 method_carried method.Max c [] = on_plain c (λ k a. taken (plain kind.Dyn (extreme_tree GreaterEqual a)))
 method_carried m c ds = refused (UnknownName (method_name m))
 
+-- a method of an operand. Whether there are tables is the first argument
+abbrev pub method_of : Bool → Method → Carried → List Translation → Translation
+method_of b m c ts = method_or b m c ts (method_carried m c ts)
+
 -- a function with a namespace, or a method
-abbrev pub method_translation : Option Qualified → Option Method → List ℕ → Translation → List Translation → Translation
-method_translation (Some q) m n t ts = qualified_translation q n ts
-method_translation None (Some m) n t ts = with_carried t (λ c. method_carried m c ts)
-method_translation None None n t ts = refused (UnknownName n)
+abbrev pub method_translation : Bool → Option Qualified → Option Method → List ℕ → Translation → List Translation → Translation
+method_translation b (Some q) m n t ts = qualified_translation q n ts
+method_translation b None (Some m) n t ts = with_carried t (λ c. method_of b m c ts)
+method_translation b None None n t ts = refused (UnknownName n)
 
 -- ---- indices
 
@@ -366,7 +371,7 @@ unfoldable mutual
       (λ j b. with_plain (translated (within x kind.Dyn s) t) (λ i c. taken (plain kind.List (filter_map_tree (written_name x) a b c)))))
   translated s (wide.call n es) = call_translation (function_named n) n (all_translated s es)
   translated s (wide.method a n es) =
-      method_translation (qualified_named (namespace_in a) n) (method_named n) n (translated s a) (all_translated s es)
+      method_translation s.wrapped (qualified_named (namespace_in a) n) (method_named n) n (translated s a) (all_translated s es)
   translated s (wide.pair_fold m r k v p) =
       let u : PairUse = pair_use (uses k p) (uses v p) in
       unless_taken k (unless_taken v (pair_translation s.wrapped m u (pair_binder u k v s) (translated s r)

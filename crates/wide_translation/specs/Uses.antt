@@ -1,7 +1,11 @@
 -- Whether an expression uses a name.
-use Rattle.std.specs.Prelude.{ℕ, Bool, false, not, ◌&&◌, ◌||◌, List, bytes_eq}
+use Rattle.std.specs.Prelude.{ℕ, Bool, true, false, not, ◌&&◌, ◌||◌, List, bytes_eq}
+use Rattle.std.specs.Option.{option_map_or}
 use Rattle.wide_reader.specs.Tree.{Wide, Wides, WideItems, WideEntries}
 use Rattle.wide_reader.specs.Tree as wide
+use Rattle.wide_meaning.specs.declared.function.Method.{Method}
+use Rattle.wide_meaning.specs.declared.function.Method.TheVariants as method
+use Rattle.wide_meaning.specs.Functions.{method_named}
 
 -- whether the name n is neither k nor v
 abbrev neither : List ℕ → List ℕ → List ℕ → Bool
@@ -45,8 +49,22 @@ unfoldable mutual
   entries_use n wide.no_entries = false
   entries_use n (wide.more_entries o k v more) = uses n k || uses n v || entries_use n more
 
+-- whether a method looks at the places of its list
+abbrev pub is_by_place : Method → Bool
+is_by_place method.IsSorted = true
+is_by_place method.Distinct = true
+is_by_place method.Reverse = true
+is_by_place method.Slice = true
+is_by_place method.IndexOf = true
+is_by_place method.LastIndexOf = true
+is_by_place _ = false
+
+-- whether the method with this name does, if there is one
+abbrev pub needs_indices : List ℕ → Bool
+needs_indices n = option_map_or is_by_place (method_named n) false
+
 unfoldable mutual
-  -- whether a macro with two names in the expression uses the first of them
+  -- whether a macro with two names in the expression uses the first of them, or a method looks at the places of its list
   pub uses_keys : Wide → Bool
   uses_keys (wide.literal l) = false
   uses_keys (wide.uint i) = false
@@ -66,19 +84,19 @@ unfoldable mutual
   uses_keys (wide.pair_filter_map r k v p t) = ((uses_keys r || (uses k p || uses k t)) || uses_keys p) || uses_keys t
   uses_keys (wide.optional_fold m a x t) = uses_keys a || uses_keys t
   uses_keys (wide.call f es) = any_uses_keys es
-  uses_keys (wide.method a f es) = uses_keys a || any_uses_keys es
+  uses_keys (wide.method a f es) = (uses_keys a || needs_indices f) || any_uses_keys es
 
-  -- whether a macro in one of the expressions does
+  -- whether one in one of the expressions does
   pub any_uses_keys : Wides → Bool
   any_uses_keys wide.no_wides = false
   any_uses_keys (wide.more_wides a more) = uses_keys a || any_uses_keys more
 
-  -- whether a macro in the items of a list literal does
+  -- whether one in the items of a list literal does
   pub items_use_keys : WideItems → Bool
   items_use_keys wide.no_items = false
   items_use_keys (wide.more_items o a more) = uses_keys a || items_use_keys more
 
-  -- whether a macro in the entries of a map literal does
+  -- whether one in the entries of a map literal does
   pub entries_use_keys : WideEntries → Bool
   entries_use_keys wide.no_entries = false
   entries_use_keys (wide.more_entries o k v more) = (uses_keys k || uses_keys v) || entries_use_keys more

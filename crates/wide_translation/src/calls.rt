@@ -14,6 +14,7 @@ ghost use Rattle.wide_kinds.specs.Kinds as kinds;
 ghost use Rattle.cel_reader.specs.Tree as node;
 
 use crate::carried::{Carried, list_of, value_of};
+use crate::method_names::method_name;
 use crate::translation_error::TranslationError;
 use crate::{build, built, conversions, list_functions};
 use cel_macros::TextTest;
@@ -39,26 +40,6 @@ pub(crate) fn taken_name(alloc: Global, name: &str) -> TranslationError
     match String::from_str(alloc, name) {
         Ok(copy) => TranslationError::TakenName(copy),
         Err(_) => TranslationError::Memory,
-    }
-}
-
-/// The name of a method.
-fn method_name(method: Method) -> &'static str
-    ensures { result.now ≡ functions.method_name method }
-{
-    match method {
-        Method::Size => "size",
-        Method::StartsWith => "startsWith",
-        Method::EndsWith => "endsWith",
-        Method::Contains => "contains",
-        Method::HasValue => "hasValue",
-        Method::Value => "value",
-        Method::OrValue => "orValue",
-        Method::Or => "or",
-        Method::First => "first",
-        Method::Last => "last",
-        Method::Min => "min",
-        Method::Max => "max",
     }
 }
 

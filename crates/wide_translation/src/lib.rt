@@ -16,8 +16,11 @@ mod entry_part;
 mod fields;
 mod indices;
 mod laws;
+mod list_calls;
 mod list_functions;
+mod list_methods;
 mod lists;
+mod method_names;
 mod name_uses;
 mod names;
 mod naming;
@@ -38,7 +41,7 @@ mod translation_error;
 pub use laws::{
     condition_means_the_same, policy_means_the_same, rows_stand, translation_means_the_same,
 };
-pub use name_uses::uses;
+pub use name_uses::{needs_indices, uses};
 pub use scope::{Scope, Variable};
 pub use translated::{Translated, translate, translate_condition};
 pub use translation_error::TranslationError;

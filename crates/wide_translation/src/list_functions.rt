@@ -26,7 +26,7 @@ use wide_kinds::ValueKind;
 use wide_meaning::Qualified;
 
 /// An expression with a name for a list.
-fn list_bound(alloc: Global, name: &str, of: Built, body: Built) -> Built
+pub(crate) fn list_bound(alloc: Global, name: &str, of: Built, body: Built) -> Built
     ensures { FormOfTwo (specs.list_let name.now) of body result }
 {
     let list = built::binary(alloc, BinaryOperator::Add, of, Ok(build::empty(alloc)));
@@ -53,7 +53,7 @@ fn start(alloc: Global) -> Built
 }
 
 /// The last place in the list that the translation's name denotes.
-fn last_place(alloc: Global) -> Built
+pub(crate) fn last_place(alloc: Global) -> Built
     ensures { IfOk result (λ e. view e ≡ layers.last_place_tree) }
 {
     let size = built::call(alloc, "size", build::held(alloc));

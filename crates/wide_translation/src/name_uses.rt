@@ -1,10 +1,11 @@
-//! Whether an expression uses a name.
+//! Whether an expression uses a name, and a method the places of its list.
 
 ghost use Rattle.std.specs.Prelude.{◌≡◌};
 ghost use Rattle.std.specs.Prelude as list;
 ghost use Rattle.wide_reader.specs.Tree as wide;
 ghost use Rattle.wide_translation.specs.Uses as specs;
 
+use wide_meaning::Method;
 use wide_reader::{Access, Wide};
 
 /// Whether one of the expressions uses the name.
@@ -91,4 +92,22 @@ pub fn uses(name: &str, e: &Wide) -> bool
         Wide::Call(_, arguments) => any_uses(name, arguments.as_slice()),
         Wide::Method(of, _, arguments) => uses(name, of) || any_uses(name, arguments.as_slice()),
     }
+}
+
+/// Whether the method of this name, if there is one, looks at the places of its list, for which a translation uses the table
+/// of indices.
+pub fn needs_indices(name: &str) -> bool
+    ensures { result ≡ specs.needs_indices name.now }
+{
+    matches!(
+        Method::of_name(name),
+        Some(
+            Method::IsSorted
+                | Method::Distinct
+                | Method::Reverse
+                | Method::Slice
+                | Method::IndexOf
+                | Method::LastIndexOf
+        )
+    )
 }

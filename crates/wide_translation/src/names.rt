@@ -30,6 +30,9 @@ pub(crate) const INDEX: &str = "celbpf_i";
 /// A second iteration name that the translation binds.
 pub(crate) const SECOND: &str = "celbpf_b";
 
+/// A third one.
+pub(crate) const THIRD: &str = "celbpf_c";
+
 /// Its field that has the parameters, if the root also has tables.
 pub(crate) const PARAMS_FIELD: &str = "v";
 

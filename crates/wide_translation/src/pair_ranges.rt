@@ -25,7 +25,7 @@ use std::alloc::{AllocError, Global};
 use wide_kinds::ValueKind;
 
 /// An index or a key.
-fn here(alloc: Global) -> Result<Expr, AllocError>
+pub(crate) fn here(alloc: Global) -> Result<Expr, AllocError>
     ensures { IfOk result (λ e. view e ≡ specs.here) }
 {
     build::name(alloc, INDEX)
@@ -87,7 +87,7 @@ fn items(alloc: Global, of: &Expr) -> Result<Expr, AllocError>
 }
 
 /// The table of the ints from 0.
-fn table(alloc: Global) -> Result<Expr, AllocError>
+pub(crate) fn table(alloc: Global) -> Result<Expr, AllocError>
     ensures { IfOk result (λ e. view e ≡ specs.table_tree) }
 {
     let tables = built::select(alloc, build::name(alloc, PARAMS), "t");
@@ -95,7 +95,7 @@ fn table(alloc: Global) -> Result<Expr, AllocError>
 }
 
 /// The indices of a list.
-fn indices(alloc: Global, of: &Expr) -> Result<Expr, AllocError>
+pub(crate) fn indices(alloc: Global, of: &Expr) -> Result<Expr, AllocError>
     ensures { IfOk result (λ e. view e ≡ specs.indices_tree (view of.now)) }
 {
     let size = built::call(alloc, "size", copy(alloc, of));

@@ -13,14 +13,14 @@ ghost use Rattle.wide_translation.specs.Translated.{translated, all_translated, 
 use crate::calls::{taken_name, unknown, unknown_method};
 use crate::carried::Carried;
 use crate::lists::ListParts;
-use crate::names::{Names, hides_variables, is_taken, written_name};
+use crate::names::{Names, hides_variables, is_taken, is_wrapped, written_name};
 use crate::naming::{compared_uint, denotes_variables, is_empty, name, qualified, root, variable};
 use crate::pair_names::{PairNames, PairScope, both_free};
 use crate::place::Place;
 use crate::translation_error::TranslationError;
 use crate::{
-    calls, composed, composed_calls, composed_macros, entries, fields, list_functions, naming,
-    operators,
+    calls, composed, composed_calls, composed_macros, entries, fields, list_calls, list_functions,
+    naming, operators,
 };
 use std::alloc::{AllocError, Global};
 use wide_kinds::ValueKind;
@@ -135,7 +135,7 @@ fn qualified_call(
 
 /// A method of an operand.
 #[cycle(translation)]
-#[tactic(auto, using(crate::proofs::Arms::method_of_many))]
+#[tactic(auto, using(crate::proofs::MethodArms::method_of_many))]
 fn method(
     alloc: Global,
     found: Method,
@@ -143,11 +143,24 @@ fn method(
     arguments: &[Wide],
     names: &Names,
 ) -> Result<Carried, TranslationError>
-    ensures { ReturnsCarried (specs.method_carried found (carried_view of) (all_translated (scope_in names.now) (wide.wides (list.map wide.view arguments.now)))) result }
+    ensures { let s = scope_in names.now in ReturnsCarried (specs.method_of s.wrapped found (carried_view of) (all_translated s (wide.wides (list.map wide.view arguments.now)))) result }
 {
+    let has_tables = is_wrapped(names);
     match arguments {
-        [] => calls::method(alloc, found, of),
-        [argument] => composed_calls::method(alloc, found, of, translation(alloc, argument, names)),
+        [] => list_calls::method(alloc, has_tables, found, of),
+        [argument] => {
+            let part = translation(alloc, argument, names);
+            list_calls::method_with(alloc, has_tables, found, of, part)
+        }
+        [first, second] => {
+            if list_calls::is_slice(found) {
+                let from = translation(alloc, first, names);
+                let to = translation(alloc, second, names);
+                return list_calls::slice(alloc, has_tables, of, from, to);
+            }
+            drop(of);
+            Err(unknown_method(alloc, found))
+        }
         _ => {
             drop(of);
             Err(unknown_method(alloc, found))

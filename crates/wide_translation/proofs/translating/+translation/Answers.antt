@@ -1,12 +1,13 @@
 -- Proof obligations of the functions of the cycle `translation` (src/translating.rt).
-use Rattle.std.proofs.Common.{◌∙◌, ap, sym, string_bytes, arith, rules}
+use Rattle.std.proofs.Common.{◌∙◌, [], ap, sym, string_bytes, arith, rules}
 use Rattle.wide_meaning.specs.Functions.{function_named}
 use Rattle.wide_translation.specs.Declarations.{scope_in, carried_view, use_view}
 use Rattle.wide_translation.specs.Names.{written_name}
 use Rattle.wide_translation.specs.Segments.{after_parts}
-use Rattle.wide_translation.specs.Translated.{call_translation, qualified_translation, method_carried}
+use Rattle.wide_translation.specs.Translated.{call_translation, qualified_translation, method_of}
 use Rattle.wide_translation.proofs.ArmReturns.{has_returned, unary_returned, index_returned, binary_returned, ternary_returned, fold_returned as range_returned, filter_map_returned, optional_fold_returned}
 use Rattle.wide_translation.proofs.Arms.{none_returns, one_returns, two_sets, two_refused, call_of_one, passed_on}
+use Rattle.wide_translation.proofs.MethodArms.{two_returns, two_unknown, with_tables}
 use Rattle.wide_translation.proofs.EntrySteps.{entries_refusal, entries_next, entries_whole}
 use Rattle.wide_translation.proofs.ItemSteps.{item_next, items_refusal, items_whole}
 use Rattle.wide_translation.proofs.PairReturns.{used_bytes, used_by_two, fold_names_refused, fold_returned, map_names_refused, map_returned}
@@ -73,11 +74,23 @@ qualified_call-returns-in-len1 t c =
 
 pub method-returns-in-empty : goal.method-returns-in-empty
 method-returns-in-empty t c =
-    none_returns (method_carried c.args.found (carried_view c.args.of)) (scope_in c.args.names.now) c.args.arguments.now _ (omega arith) c.method.ensures
+    none_returns (method_of (scope_in c.args.names.now).wrapped c.args.found (carried_view c.args.of)) (scope_in c.args.names.now) c.args.arguments.now _ (omega arith)
+    (with_tables c.is_wrapped-has_tables.result (scope_in c.args.names.now).wrapped c.args.found (carried_view c.args.of) [] _ c.is_wrapped-has_tables.ensures c.method.ensures)
 
 pub method-returns-in-len1 : goal.method-returns-in-len1
 method-returns-in-len1 t c =
-    one_returns (method_carried c.args.found (carried_view c.args.of)) (scope_in c.args.names.now) c.args.arguments.now c.argument-item.result _ (omega arith) c.argument-item.is (c.method-in-len1.ensures _ c.translation.ensures)
+    one_returns (method_of (scope_in c.args.names.now).wrapped c.args.found (carried_view c.args.of)) (scope_in c.args.names.now) c.args.arguments.now c.argument-item.result _ (omega arith) c.argument-item.is
+    (with_tables c.is_wrapped-has_tables.result (scope_in c.args.names.now).wrapped c.args.found (carried_view c.args.of) _ _ c.is_wrapped-has_tables.ensures (c.method_with.ensures _ c.translation-part.ensures))
+
+pub method-returns-then-is_slice : goal.method-returns-then-is_slice
+method-returns-then-is_slice t c =
+    two_returns (scope_in c.args.names.now).wrapped c.is_wrapped-has_tables.result c.args.found (carried_view c.args.of) (scope_in c.args.names.now) c.args.arguments.now c.first-item.result c.second-item.result _ (omega arith) c.first-item.is c.second-item.is
+    (sym c.is_slice.ensures ∙ c.if-is_slice.true) c.is_wrapped-has_tables.ensures (c.slice.ensures _ _ c.translation-from.ensures c.translation-to.ensures)
+
+pub method-returns-else-is_slice : goal.method-returns-else-is_slice
+method-returns-else-is_slice t c =
+    two_unknown (scope_in c.args.names.now).wrapped c.args.found (carried_view c.args.of) (scope_in c.args.names.now) c.args.arguments.now c.first-item.result c.second-item.result _ (omega arith) c.first-item.is c.second-item.is
+    (sym c.is_slice.ensures ∙ c.if-is_slice.false) c.unknown_method.ensures
 
 pub translation-method-requires : goal.translation-method-requires
 translation-method-requires t c = (
