@@ -13,6 +13,7 @@ use Rattle.cel_macros.specs.Selection.{index_of}
 use Rattle.cel_macros.specs.declared.macros.Macro.{TheVariants.All, TheVariants.Filter}
 use Rattle.cel_macros.specs.declared.text_test.TextTest.TheVariants as test
 use Rattle.wide_meaning.specs.Functions.{first_item, last_item, item_of, extreme_of, method_in, qualified_in}
+use Rattle.wide_meaning.specs.ListMethods.{of_items, is_sorted, distinct, reversed}
 use Rattle.wide_meaning.specs.Meaning.{called as function_called, method_called as operand_called}
 use Rattle.wide_meaning.specs.Outcome.{Outcome, plain_part, outcome_of}
 use Rattle.wide_meaning.specs.declared.function.Function.{Function}
@@ -23,6 +24,7 @@ use Rattle.wide_meaning.specs.declared.function.Qualified.{Qualified}
 use Rattle.wide_meaning.specs.declared.function.Qualified.TheVariants as qualified
 use Rattle.wide_widths.specs.Law.{IsOutcomeWithin}
 use Rattle.wide_widths.specs.Narrow.{called, qualified_called, method_called, on_operand}
+use Rattle.wide_widths.proofs.ListMethods.{of_items_within, sorted_flat, distinct_within, reversed_within, slice_within}
 use Rattle.wide_widths.proofs.Lists.{range_within, list_within, where_within}
 use Rattle.wide_widths.proofs.Results.{flat_within, size_flat, text_flat, bool_flat, sets_flat, test_of_flat}
 use Rattle.wide_widths.proofs.Values.{outcome_within, plain_within, some_within, present_within, index_of_within}
@@ -111,6 +113,10 @@ module _ (n : ℕ) where
   method_within method.Last b [] x [] r h g k = item_of_within last_item (plain_part x) last_item_within (plain_within n x (h k))
   method_within method.Min b [] x [] r h g k = outcome_within n _ (extreme_within less_equal_of (plain_part x) (plain_within n x (h k)))
   method_within method.Max b [] x [] r h g k = outcome_within n _ (extreme_within greater_equal_of (plain_part x) (plain_within n x (h k)))
+  method_within method.IsSorted b [] x [] r h g k = flat_within n (of_items is_sorted (plain_part x)) (sorted_flat n (plain_part x))
+  method_within method.Distinct b [] x [] r h g k = outcome_within n _ (of_items_within n distinct (plain_part x) (distinct_within n) (plain_within n x (h k)))
+  method_within method.Reverse b [] x [] r h g k = outcome_within n _ (of_items_within n reversed (plain_part x) (reversed_within n) (plain_within n x (h k)))
+  method_within method.Slice b (c ∷ d ∷ []) x (y ∷ z ∷ []) r h g k = outcome_within n _ (slice_within n (plain_part x) (plain_part y) (plain_part z) (plain_within n x (h k)))
   method_within m b bs x xs r h g k = absurd (grind arith)
 
   pub operand_within : (q : Option Qualified) (m : Option Method) (b : Bool) (bs : List Bool) (x : Outcome) (xs : List Outcome) (r : Outcome)

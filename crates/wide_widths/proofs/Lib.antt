@@ -3,6 +3,7 @@ pub mod Values
 pub mod Lists
 pub mod Results
 pub mod Within
+pub mod ListMethods
 pub mod Calls
 pub mod Macros
 pub mod Law

@@ -81,6 +81,10 @@ method_called method.First x [] = x
 method_called method.Last x [] = x
 method_called method.Min x [] = x
 method_called method.Max x [] = x
+method_called method.IsSorted x [] = true
+method_called method.Distinct x [] = x
+method_called method.Reverse x [] = x
+method_called method.Slice x (y ∷ z ∷ []) = x
 method_called _ x ys = false
 
 abbrev pub on_operand : Option Qualified → Option Method → Bool → List Bool → Bool

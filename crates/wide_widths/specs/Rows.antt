@@ -56,4 +56,8 @@ pub record NarrowRowsHold : Type 0 where
   pub items_of_sum : is_narrow outside (wide.fold macro.Map (sum args args) (codes "x") (num 1)) ≡ false
   pub values_of_pairs : is_narrow outside (wide.pair_fold TransformList args (codes "k") (codes "x") x) ≡ true
   pub is_there_one : is_narrow outside (wide.fold macro.Exists (sum args args) (codes "x") x) ≡ true
+  pub reversed : is_narrow outside (wide.method args (codes "reverse") (wides [])) ≡ true
+  pub reversed_sum : is_narrow outside (wide.method (sum args args) (codes "reverse") (wides [])) ≡ false
+  pub slice_of_sum : is_narrow outside (wide.method (sum args args) (codes "slice") (wides (num 0 ∷ num 2 ∷ []))) ≡ false
+  pub sorted_sum : is_narrow outside (wide.method (sum args args) (codes "isSorted") (wides [])) ≡ true
   pub unknown_method : is_narrow outside (wide.method args (codes "split") (wides (str "," ∷ []))) ≡ false
