@@ -7,12 +7,12 @@ use Rattle.wide_meaning.specs.declared.function.Method.{Method}
 use Rattle.wide_meaning.specs.declared.function.Qualified.{Qualified}
 use Rattle.wide_widths.specs.Narrow.{NarrowNames, called, on_operand}
 unfoldable use Rattle.wide_widths.specs.Narrow.{is_narrow, are_narrow}
-use Rattle.wide_indices.specs.Known.{is_of_sets}
+use Rattle.wide_indices.specs.Known.{of_two}
 
 more_operands : (f : Option Function) (x y : Bool) (xs : List Bool) → called f (x ∷ y ∷ xs) ≡ false
 more_operands f x y xs = grind arith
 
-two_arguments : (o : Option Qualified) (m : Option Method) (a x y : Bool) → on_operand o m a (x ∷ y ∷ []) ≡ is_of_sets o
+two_arguments : (o : Option Qualified) (m : Option Method) (a x y : Bool) → on_operand o m a (x ∷ y ∷ []) ≡ of_two o m a
 two_arguments o m a x y = grind arith
 
 more_arguments : (o : Option Qualified) (m : Option Method) (a x y z : Bool) (xs : List Bool) → on_operand o m a (x ∷ y ∷ z ∷ xs) ≡ false
@@ -29,7 +29,7 @@ module _ (s : NarrowNames) where
   called_with_more f (x ∷ y ∷ given) h = more_operands f _ _ _
 
   pub method_with_two : (o : Option Qualified) (m : Option Method) (a : Bool) (given : List CodeWide) → 1 < length given → length given < 3
-      → on_operand o m a (narrow_each given) ≡ is_of_sets o
+      → on_operand o m a (narrow_each given) ≡ of_two o m a
   unfolding is_narrow
   method_with_two o m a [] h k = absurd (omega arith)
   method_with_two o m a (x ∷ []) h k = absurd (omega arith)

@@ -15,7 +15,7 @@ use Rattle.wide_meaning.specs.Outcome.{Outcome, failed, plain, absent, present, 
 use Rattle.wide_meaning.specs.Ranges.{pairs_of, numbered, keyed}
 use Rattle.wide_translation.specs.Indexed.{ints_from, Covers, CoversIf, ForEach, ForPresent}
 unfoldable use Rattle.wide_translation.specs.Indexed.{Indexed, AllIndexed, ItemsIndexed, EntriesIndexed}
-use Rattle.wide_translation.specs.Uses.{uses}
+use Rattle.wide_translation.specs.Uses.{uses, needs_indices}
 use Rattle.wide_widths.specs.Law.{IsOutcomeWithin, IsEnvironmentWithin}
 use Rattle.wide_widths.specs.Narrow.{NarrowNames, binding, is_narrow}
 use Rattle.wide_widths.proofs.Law.{narrow_means_within}
@@ -183,7 +183,12 @@ module _ (others : Wide → WideEnvironment → Outcome) (n m : ℕ) (l : n ≤ 
         )
     covered (wide.call f es) s env h g = all_covered es s env h g
     covered (wide.method a f es) s env h g =
-        (covered a s env h (and_left (has_narrow_ranges s a) (all_have_narrow_ranges s es) g), all_covered es s env h (and_right (has_narrow_ranges s a) (all_have_narrow_ranges s es) g))
+        let u : Bool = is_narrow_if (needs_indices f) (is_narrow s a) in
+        let i : (u && all_have_narrow_ranges s es) ≡ true = and_right (has_narrow_ranges s a) (u && all_have_narrow_ranges s es) g in (
+          covered a s env h (and_left (has_narrow_ranges s a) (u && all_have_narrow_ranges s es) g),
+          covers_if (needs_indices f) (is_narrow s a) (plain_part (wide_meaning others a env)) (λ j. narrow s env a h j) (and_left u (all_have_narrow_ranges s es) i),
+          all_covered es s env h (and_right u (all_have_narrow_ranges s es) i),
+        )
 
     all_covered : (es : Wides) (s : NarrowNames) (env : WideEnvironment) → IsEnvironmentWithin n s env → all_have_narrow_ranges s es ≡ true → AllIndexed others table es env
     all_covered wide.no_wides s env h g = tt

@@ -1,8 +1,10 @@
 -- Names and variables of the code as plain data, and what is known of calls with a fixed number of operands.
-use Rattle.std.specs.Prelude.{ℕ, Bool, true, false, ◌&&◌, List, map, string_bytes, Option, Some}
+use Rattle.std.specs.Prelude.{ℕ, Bool, true, false, ◌&&◌, List, map, string_bytes, Option, Some, None}
 use Rattle.wide_reader.specs.declared.wide.Macro.{Macro}
 use Rattle.wide_reader.specs.declared.wide.Macro.TheVariants as macro
 use Rattle.wide_reader.specs.declared.wide.PairMacro.{PairMacro, TheVariants.TransformList}
+use Rattle.wide_meaning.specs.declared.function.Method.{Method}
+use Rattle.wide_meaning.specs.declared.function.Method.TheVariants as method
 use Rattle.wide_meaning.specs.declared.function.Qualified.{Qualified}
 use Rattle.wide_meaning.specs.declared.function.Qualified.TheVariants as qualified
 use Rattle.wide_widths.specs.Narrow.{NarrowNames, binding}
@@ -42,3 +44,9 @@ is_of_sets (Some qualified.SetsContains) = true
 is_of_sets (Some qualified.SetsIntersects) = true
 is_of_sets (Some qualified.SetsEquivalent) = true
 is_of_sets _ = false
+
+-- whether a function with a namespace, or a method of an operand, of two arguments is narrow
+abbrev pub of_two : Option Qualified → Option Method → Bool → Bool
+of_two (Some q) m x = is_of_sets (Some q)
+of_two None (Some method.Slice) x = x
+of_two None m x = false

@@ -3,10 +3,10 @@ use Rattle.std.specs.Prelude.{ℕ, Bool, true, ◌&&◌, ◌||◌, not, List, []
 use Rattle.wide_reader.specs.Tree.{Wide, Wides, WideItems, WideEntries}
 use Rattle.wide_reader.specs.Tree as wide
 use Rattle.wide_translation.specs.Placed.{WideStep}
-use Rattle.wide_translation.specs.Uses.{uses}
+use Rattle.wide_translation.specs.Uses.{uses, needs_indices}
 use Rattle.wide_widths.specs.Narrow.{NarrowNames, binding, is_narrow}
 
--- whether a range is narrow, if its keys or indices are used
+-- whether a range, or the list of a method, is narrow, if its keys or indices are used
 abbrev pub is_narrow_if : Bool → Bool → Bool
 is_narrow_if used narrow = not used || narrow
 
@@ -15,7 +15,8 @@ abbrev pub binding_pair : List ℕ → List ℕ → Bool → NarrowNames → Nar
 binding_pair k v b s = binding v b (binding k true s)
 
 unfoldable mutual
-  -- whether each range in an expression of which a macro with two names uses the keys or indices is narrow
+  -- whether each range in an expression of which a macro with two names uses the keys or indices is narrow, and the list
+  -- of each method that looks at its places
   pub has_narrow_ranges : NarrowNames → Wide → Bool
   has_narrow_ranges s (wide.literal l) = true
   has_narrow_ranges s (wide.uint n) = true
@@ -43,7 +44,8 @@ unfoldable mutual
   has_narrow_ranges s (wide.optional_fold m a x t) =
       has_narrow_ranges s a && has_narrow_ranges (binding x (is_narrow s a) s) t
   has_narrow_ranges s (wide.call n es) = all_have_narrow_ranges s es
-  has_narrow_ranges s (wide.method a n es) = has_narrow_ranges s a && all_have_narrow_ranges s es
+  has_narrow_ranges s (wide.method a n es) =
+      has_narrow_ranges s a && (is_narrow_if (needs_indices n) (is_narrow s a) && all_have_narrow_ranges s es)
 
   -- whether those in each of the expressions are
   pub all_have_narrow_ranges : NarrowNames → Wides → Bool

@@ -71,6 +71,11 @@ pub record IndexRowsHold : Type 0 where
   pub index_in_argument :
       has_narrow_ranges (outside []) (wide.call (codes "size") (wides (transform (sum args args) k v ∷ []))) ≡ false
   pub no_macro : has_narrow_ranges (outside []) (sum args args) ≡ true
+  pub reversed : has_narrow_ranges (outside []) (wide.method args (codes "reverse") (wides [])) ≡ true
+  pub reversed_sum : has_narrow_ranges (outside []) (wide.method (sum args args) (codes "reverse") (wides [])) ≡ false
+  pub first_of_sum : has_narrow_ranges (outside []) (wide.method (sum args args) (codes "first") (wides [])) ≡ true
+  pub place_in_reversed_sum :
+      has_narrow_ranges (outside []) (wide.method (wide.method args (codes "reverse") (wides [])) (codes "indexOf") (wides (sum args args ∷ []))) ≡ true
   pub narrow_variable : policy_has_narrow_ranges [] (variable args ∷ []) (all of_variable (same k (num 0))) ≡ true
   pub variable_of_sum : policy_has_narrow_ranges [] (variable (sum args args) ∷ []) (all of_variable (same k (num 0))) ≡ false
   pub range_in_variable : policy_has_narrow_ranges [] (variable (all (sum args args) k) ∷ []) (str "a") ≡ false

@@ -2,7 +2,7 @@
 
 ghost use Rattle.std.specs.Prelude.{◌≡◌, None, [], ◌∷◌};
 ghost use Rattle.wide_widths.specs.Narrow as widths;
-ghost use Rattle.wide_indices.specs.Known.{is_of_sets};
+ghost use Rattle.wide_indices.specs.Known.{of_two};
 
 use wide_meaning::{Function, Method, Qualified};
 
@@ -36,7 +36,8 @@ fn alone(method: Option<Method>, operand: bool) -> bool
     ensures { result ≡ widths.on_operand None method operand [] }
 {
     match method {
-        Some(Method::Size) | Some(Method::HasValue) => true,
+        Some(Method::Size) | Some(Method::HasValue) | Some(Method::IsSorted) => true,
+        Some(Method::Distinct) | Some(Method::Reverse) => operand,
         Some(Method::Value)
         | Some(Method::First)
         | Some(Method::Last)
@@ -78,15 +79,15 @@ fn beside(method: Option<Method>, operand: bool, argument: bool) -> bool
     }
 }
 
-/// A function with a namespace, or a method, of two arguments.
-pub(crate) fn with_two(found: Option<Qualified>) -> bool
-    ensures { result ≡ is_of_sets found }
+/// A function with a namespace, or a method of an operand, of two arguments.
+pub(crate) fn with_two(found: Option<Qualified>, method: Option<Method>, operand: bool) -> bool
+    ensures { result ≡ of_two found method operand }
 {
     match found {
         Some(found) => matches!(
             found,
             Qualified::SetsContains | Qualified::SetsIntersects | Qualified::SetsEquivalent
         ),
-        None => false,
+        None => matches!(method, Some(Method::Slice)) && operand,
     }
 }

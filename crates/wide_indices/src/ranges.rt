@@ -10,7 +10,7 @@ ghost use Rattle.wide_indices.specs.Narrow as specs;
 use crate::names::Names;
 use crate::widths::is_narrow;
 use wide_reader::{Access, Wide};
-use wide_translation::uses;
+use wide_translation::{needs_indices, uses};
 
 /// The arguments of a call.
 #[cycle(has_narrow_ranges)]
@@ -72,7 +72,8 @@ fn in_pair(key: &str, value: &str, over: bool, part: &Wide, names: &Names) -> bo
     in_macro(value, over, part, &outer)
 }
 
-/// Whether each range in an expression of which a macro with two names uses the keys or indices is narrow.
+/// Whether each range in an expression of which a macro with two names uses the keys or indices is narrow, and the list of
+/// each method that looks at its places.
 #[cycle(has_narrow_ranges)]
 #[tactic(auto, using(wide_translation::proofs::WideViews::view_call, wide_translation::proofs::WideViews::view_method, wide_translation::proofs::WideViews::view_list, wide_translation::proofs::WideViews::view_map), unfolding(crate::specs::Narrow::has_narrow_ranges))]
 pub(crate) fn has_narrow_ranges(e: &Wide, names: &Names) -> bool
@@ -122,8 +123,10 @@ pub(crate) fn has_narrow_ranges(e: &Wide, names: &Names) -> bool
             has_narrow_ranges(of, names) && in_macro(item.as_str(), over, transform, names)
         }
         Wide::Call(_, given) => arguments(given.as_slice(), names),
-        Wide::Method(of, _, given) => {
-            has_narrow_ranges(of, names) && arguments(given.as_slice(), names)
+        Wide::Method(of, name, given) => {
+            has_narrow_ranges(of, names)
+                && ((!needs_indices(name.as_str()) || is_narrow(of, names))
+                    && arguments(given.as_slice(), names))
         }
     }
 }

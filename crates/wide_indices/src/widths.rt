@@ -105,7 +105,7 @@ fn method(
     match given {
         [] => without_arguments(found, known, operand),
         [argument] => with_argument(found, known, operand, is_narrow(argument, names)),
-        [_, _] => with_two(found),
+        [_, _] => with_two(found, known, operand),
         _ => false,
     }
 }
