@@ -68,6 +68,15 @@ object.l.all(namespaceObject, namespaceObject == .namespaceObject)¦object.l.all
 has(namespaceObject.f)¦[dyn(null)].map(celbpf_a, celbpf_a != null && has(celbpf_a.f))[0]
 params.max > 1¦params.max > 1";
 
+/// One row per line: a method that uses the table of indices, a broken bar and its translation.
+#[rattlefmt::skip]
+const METHODS: &str = r#"object.l.isSorted()¦[object.l + []].map(celbpf_a, params.t.n.filter(celbpf_i, celbpf_i < size(celbpf_a) - 1).all(celbpf_i, celbpf_a[celbpf_i] <= celbpf_a[celbpf_i + 1]))[0]
+object.l.distinct()¦[object.l + []].map(celbpf_a, params.t.n.filter(celbpf_i, celbpf_i < size(celbpf_a)).map(celbpf_i, !params.t.n.exists(celbpf_b, celbpf_b < celbpf_i && celbpf_a[celbpf_b] == celbpf_a[celbpf_i]), celbpf_a[celbpf_i]))[0]
+object.l.reverse()¦[object.l + []].map(celbpf_a, params.t.n.filter(celbpf_i, celbpf_i < size(celbpf_a)).map(celbpf_i, celbpf_a[size(celbpf_a) - 1 - celbpf_i]))[0]
+object.l.slice(1, params.n)¦[object.l + []].map(celbpf_a, [1].map(celbpf_b, [params.v.n].map(celbpf_c, 0 <= celbpf_b && celbpf_b <= celbpf_c && celbpf_c <= size(celbpf_a) ? params.t.n.filter(celbpf_i, celbpf_i < size(celbpf_a)).map(celbpf_i, celbpf_b <= celbpf_i && celbpf_i < celbpf_c, celbpf_a[celbpf_i]) : [][0])[0])[0])[0]
+variables.l.indexOf('a')¦[variables.l + []].map(celbpf_a, ['a'].map(celbpf_b, [params.t.n.filter(celbpf_i, celbpf_i < size(celbpf_a)).filter(celbpf_i, celbpf_a[celbpf_i] == celbpf_b)].map(celbpf_c, celbpf_c == [] ? -1 : celbpf_c[0])[0])[0])[0]
+[1].lastIndexOf(1)¦[[1] + []].map(celbpf_a, [1].map(celbpf_b, [params.t.n.filter(celbpf_i, celbpf_i < size(celbpf_a)).filter(celbpf_i, celbpf_a[celbpf_i] == celbpf_b)].map(celbpf_c, celbpf_c == [] ? -1 : celbpf_c[size(celbpf_c) - 1])[0])[0])[0]"#;
+
 /// One row per line: a wide expression, a broken bar and the error in words.
 const REFUSALS: &str = "name¦name is not supported here
 authorizer.path('/x')¦path is not supported here
@@ -81,6 +90,10 @@ object.m.all(k, celbpf_x, true)¦celbpf_x cannot be an iteration name here
 {?object.t: object.?a}¦this optional entry is not supported here
 {?'a': object.?a, ?'b': object.?a, ?'c': object.?a, ?'d': object.?a}¦this optional entry is not supported here
 object.l.first(1)¦first is not supported here
+object.l.reverse(1)¦reverse is not supported here
+object.l.indexOf(1)¦indexOf is not supported here
+'a'.lastIndexOf('a')¦lastIndexOf is not supported here
+object.?a.distinct()¦an optional value cannot be used here
 sets.contains(object.l)¦contains is not supported here";
 
 /// The indices of a list, or the keys of a map, each with its item or value.
@@ -137,6 +150,18 @@ fn translates_conditions(rt: HostRuntime) -> Result<(), Fail> {
 fn translates_params_beside_tables(rt: HostRuntime) -> Result<(), Fail> {
     assert!(rt; has_translation(rt.alloc(), "params.max", true, "params.v.max")?);
     assert!(rt; has_translation(rt.alloc(), "object.m.all(k, v, v != k)", true, NUMBERED)?);
+    Ok(())
+}
+
+#[test]
+fn translates_methods_by_places(rt: HostRuntime) -> Result<(), Fail> {
+    for line in METHODS.lines() {
+        let (text, tree) = cells(line);
+        assert!(rt;
+            has_translation(rt.alloc(), text, true, tree)?,
+            "row {text}"
+        );
+    }
     Ok(())
 }
 
