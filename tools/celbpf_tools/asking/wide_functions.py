@@ -10,12 +10,12 @@ LATER = {
     "join": "an item, such as `l[0]`",
     "format": "`+`, with `string(e)` for an int or a bool",
     "substring": "startsWith or endsWith",
-    "indexOf": "contains",
-    "lastIndexOf": "contains or endsWith",
+    "indexOf": "contains for a text, `l.map(x, x).indexOf(e)` for a list",
+    "lastIndexOf": "contains or endsWith for a text, `l.map(x, x).lastIndexOf(e)` for a list",
     "replace": "", "trim": "", "charAt": "", "find": "", "findAll": "",
     "lowerAscii": "each spelling: `e in ['a', 'A']`",
     "upperAscii": "each spelling: `e in ['a', 'A']`",
-    "sum": "", "isSorted": "", "distinct": "", "reverse": "", "slice": "", "flatten": "", "sort": "",
+    "sum": "", "flatten": "", "sort": "",
     "type": "",
     "int": "an int in the document, or a comparison of texts such as `e == '3'`", "double": "an int", "uint": "an int", "bytes": "a text",
     "quantity": "if few are allowed, a choice of texts, such as `e in ['500m', '1']`; nothing compares quantities",
@@ -31,8 +31,8 @@ NOT_THERE = {
 }
 # the macros and functions that there are
 MACROS = ("all", "exists", "exists_one", "filter", "map", "transformList")
-TAKEN = (*MACROS, "size", "startsWith", "endsWith", "contains", "string", "bool", "dyn", "first", "last", "min", "max", "hasValue",
-         "value", "orValue", "optMap", "optFlatMap")
+TAKEN = (*MACROS, "size", "startsWith", "endsWith", "contains", "string", "bool", "dyn", "first", "last", "min", "max",
+         "isSorted", "distinct", "reverse", "slice", "hasValue", "value", "orValue", "optMap", "optFlatMap")
 # what other languages call them
 ELSEWHERE = {
     "length": "size", "len": "size", "count": "size", "any": "exists", "some": "exists", "every": "all", "includes": "contains",
