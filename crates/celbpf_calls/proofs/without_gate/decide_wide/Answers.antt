@@ -11,7 +11,7 @@ returns-in-Ok c =
     answered (
       _,
       c.decided_by-answer.ensures.reviews _ _ gate.0,
-      of_one _ _ _ _ _ _ gate.0.0 gate.1 (c.decided_by-answer.ensures.runs _ _ gate.0),
+      of_one _ _ _ _ _ _ _ gate.0.0 gate.1 (c.decided_by-answer.ensures.runs _ _ gate.0),
       c.write_answer.ensures,
     )
 

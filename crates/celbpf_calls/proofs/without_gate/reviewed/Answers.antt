@@ -7,4 +7,4 @@ pub returns-clause-reviews : goal.returns-clause-reviews
 returns-clause-reviews c = c.decided_by.ensures.reviews _ _ c.in_ok-gate.ensures.compiles
 
 pub returns-clause-runs : goal.returns-clause-runs
-returns-clause-runs c = of_one _ _ _ _ _ _ c.in_ok-gate.ensures.compiles.0 c.in_ok-gate.ensures.one (c.decided_by.ensures.runs _ _ c.in_ok-gate.ensures.compiles)
+returns-clause-runs c = of_one _ _ _ _ _ _ _ c.in_ok-gate.ensures.compiles.0 c.in_ok-gate.ensures.one (c.decided_by.ensures.runs _ _ c.in_ok-gate.ensures.compiles)
