@@ -4,6 +4,7 @@
     program        runs of celbpf
     gatekeeper     runs of the gatekeeper on one policy
     translating    both: the gatekeeper translates and answers, celbpf runs the translation
+    index_tables   the table of indices beside the params, on which some translations run
     policies       the parts of a policy, and small policies of one expression
     splitter       an expression's text in pieces
     wide_splitter  likewise, by the grammar that the gatekeeper reads

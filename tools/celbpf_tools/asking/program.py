@@ -150,10 +150,6 @@ class Program:
         """What the policy's document says that is compiled."""
         return policy if isinstance(policy, dict) else json.loads(Path(policy).read_text(encoding="utf-8"))
 
-    def compilable(self, policy: Any) -> str:
-        """The file of what is compiled for a policy."""
-        return self.file(policy)
-
     def refusal(self, policy: Any) -> str:
         """What `compile` says to a policy, as `K6 validation 0 Y2`; empty where it is accepted."""
         ran = self.run("compile", self.file(policy), self.image())
@@ -169,9 +165,17 @@ class Program:
             raise NotAnswered(ran)
         return self.image()
 
+    def given_to(self, image: str) -> list[str]:
+        """The words of the documents on which an image's program runs."""
+        return self.documents
+
+    def asked_by(self, policy: Any, documents: Any) -> list[str]:
+        """The words by which `celbpf review` is asked for a policy's response: what is compiled, and what that runs on."""
+        return ["--policy", self.file(policy), *documents]
+
     def response(self, policy: Any) -> dict[str, Any]:
         """The response to the review under a policy."""
-        ran = self.run("review", "--policy", self.file(policy), *self.documents)
+        ran = self.run("review", *self.asked_by(policy, self.documents))
         if ran.returncode > 1:
             raise NotAnswered(ran)
         return json.loads(ran.stdout)["response"]
@@ -184,13 +188,13 @@ class Program:
         return kept
 
     def session(self, image: str) -> "Session":
-        return Session([self.path, "debug", image, *self.documents])
+        return Session([self.path, "debug", image, *self.given_to(image)])
 
     def shown_verdict(self, image: Any, documents: Any) -> Any:
         """The lines of `w` at the end of an image's program, over these documents."""
         self.documents = [str(word) for word in documents]
         ran = subprocess.run(
-            [self.path, "debug", image, *self.documents], input=TO_THE_END, capture_output=True, text=True
+            [self.path, "debug", image, *self.given_to(image)], input=TO_THE_END, capture_output=True, text=True
         )
         if ran.returncode:
             raise NotAnswered(ran)

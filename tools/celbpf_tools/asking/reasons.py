@@ -267,6 +267,21 @@ class Reasons:
         if is_path_or(piece) and is_some(self.value(piece.parts[0], frames)):
             piece = piece.parts[0]
         text = plain(self.text(piece))
+        return self.key(text, frames) or self.standing(text, frames)
+
+    def key(self, text: str, frames: list[Any]) -> str:
+        """The key or the index that a name stands for, in words; empty if it stands for none."""
+        for depth, (range_text, names, place) in reversed(list(enumerate(frames))):
+            *keys, name = names.split()
+            if text in keys:
+                path, word = plain(range_text.strip()), "index" if isinstance(place, int) else "key"
+                return f"the {word} {place}" + (f" of {self.standing(path, frames[:depth])}" if PATH.match(path) else "")
+            if text == name:
+                break
+        return ""
+
+    def standing(self, text: str, frames: list[Any]) -> str:
+        """A text with what the iteration names of these frames stand for."""
         for depth, (range_text, names, place) in reversed(list(enumerate(frames))):
             (*keys, name), path = names.split(), plain(range_text.strip())
             for key in keys:

@@ -12,8 +12,7 @@ from .wide_splitter import NAMESPACES, namespace_of
 NAMES = ("object", "oldObject", "params", "namespaceObject", "request", "variables")
 # names of types, which are no values here
 TYPES = ("int", "uint", "double", "string", "bool", "bytes", "null_type", "list", "map", "type")
-# macros of two names whose kin of one name has another
-OF_ONE_NAME = {"transformList": "map", "existsOne": "exists_one"}
+INDEX_HINT = "a macro over each list of the sum, or one with a single name"
 # a name after a dot, and a minus
 DASHED = re.compile(r"\.([A-Za-z_]\w*(?:-[A-Za-z_]\w*)*)-$")
 AS_VALUE = "`.orValue(..)` for its value, or `.hasValue()`"
@@ -110,9 +109,9 @@ def form_told(found: Found) -> tuple[str, str]:
     piece = found.piece
     assert piece is not None
     if piece.kind == "macro":
-        word = OF_ONE_NAME.get(piece.word, piece.word)
-        hint = f"`m.{word}(k, ..)` of a map, with `m[k]` for the value, or `l.{word}(x, ..)` of a list, whose items have no index"
-        return f"`{piece.name.split()[0]}` may be used only if the range is known to be a map", hint
+        return "a macro uses the index or key of what may be longer than the documents' lists and maps, as a sum may", INDEX_HINT
+    if piece.form == "method":
+        return f"`{piece.name}` looks at the places of what may be longer than the documents' lists and maps, as a sum may", "the same of each part"
     return MEANINGS["W5"], ""
 
 

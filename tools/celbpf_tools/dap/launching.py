@@ -31,7 +31,6 @@ KEYS = (
 )
 # what clients add for themselves, beside keys that begin with two underscores
 OF_CLIENTS = ("name", "type", "request", "preLaunchTask", "postDebugTask", "presentation", "internalConsoleOptions", "debugServer")
-IMAGE = "launched.img"
 
 
 @dataclass(frozen=True)
@@ -130,15 +129,11 @@ def readable(path: str) -> bytes:
         raise BadRequest(told(why)) from why
 
 
-def image_of(order: Order, program: Program, folder: str) -> str:
+def image_of(order: Order, program: Program) -> str:
     """The file of the image, which is made of the policy if one was given."""
     if order.image:
         return order.image
-    image = os.path.join(folder, IMAGE)
-    ran = program.run("compile", program.compilable(order.policy), image)
-    if ran.returncode:
-        raise NotAnswered(ran)
-    return image
+    return program.kept_image(order.policy)
 
 
 def document_of(order: Order, asked: Asked, option: str, file: str) -> str:
@@ -168,14 +163,14 @@ def started(order: Order, folder: tempfile.TemporaryDirectory[str]) -> Launched:
     """The session of an order, in a folder for its files."""
     given, order = order, with_files(order, folder.name)
     program = program_of(order, folder.name)
-    image = image_of(order, program, folder.name)
+    image = image_of(order, program)
     listed = program.run("list", image)
     if listed.returncode:
         raise NotAnswered(listed)
     code = Code(readable(image), listed.stdout)
     if order.listing:
         write_listing(order.listing, code.text)
-    child = Child([program.path, "debug", image, *order.documents])
+    child = Child([program.path, "debug", image, *program.given_to(image)])
     made = Launched(given, code, child, program, folder)
     if order.policy:
         document = policies.read(order.policy)

@@ -171,13 +171,13 @@ class Programs:
 
     def review(self, words: tuple[Any, ...], text: str) -> Answer:
         """What `celbpf review` answers, under the translation of the policy if it is translated."""
-        named = dict(zip(words[::2], words[1::2]))
+        named = {**dict(zip(words[::2], words[1::2])), "--review": self.asked.write("review.json", text)}
+        policy = named.pop("--policy")
         try:
-            named["--policy"] = self.program.compilable(named["--policy"])
+            asked = self.program.asked_by(policy, [word for pair in named.items() for word in pair])
         except NotAnswered as why:
             return Answer(refusal=why.line)
-        words = tuple(word for pair in named.items() for word in pair)
-        ran = run([self.program.path, "review", *words, "--review", self.asked.write("review.json", text)])
+        ran = run([self.program.path, "review", *asked])
         if ran.returncode in (0, 1):
             return answer_of(ran.stdout)
         return Answer(refusal=refusal_of(ran))

@@ -61,7 +61,8 @@ REASONS = [
         '      k is "team"',
         "    v == 'y' is false",
         '      v is "x"',
-        "to be true: 'team' has to be other than 'team', or object.metadata.labels['team'] has to be equal to 'y'",
+        "to be true: the key 'team' of object.metadata.labels has to be other than 'team', or object.metadata.labels['team'] has to "
+        "be equal to 'y'",
     ]),
     ("object.spec.args.exists(i, a, i == 0 && a == 'y')", [
         'object.spec.args is ["x"]',
@@ -71,6 +72,37 @@ REASONS = [
         "    a == 'y' is false",
         '      a is "x"',
         "to be true: object.spec.args has to have an item i, a for which i == 0 && a == 'y' is true",
+    ]),
+    ("object.spec.containers.all(c, [c.name, 'b'].all(i, n, n != 'b' || i < size(c.name)))", [
+        'object.spec.containers is [{"image":"reg/a","name":"a"},{"image":"hub/b","name":"b"}]',
+        'item 0 of 2 decides: c is {"image":"reg/a","name":"a"}',
+        "  [c.name, 'b'].all(i, n, n != 'b' || i < size(c.name)) is false",
+        '    [c.name, \'b\'] is ["a","b"]',
+        '      c.name is "a"',
+        '    item 1 of 2 decides: i is 1 and n is "b"',
+        "      n != 'b' || i < size(c.name) is false",
+        "        n != 'b' is false",
+        '          n is "b"',
+        "        i < size(c.name) is false",
+        "          i is 1",
+        "          size(c.name) is 1",
+        '            c.name is "a"',
+        "to be true: n has to be other than 'b', or the index 1 has to be below 1 (size(object.spec.containers[0].name)); "
+        "n has to be other than 'b', or the index 1 has to be below 1 (size(object.spec.containers[1].name))",
+    ]),
+    ("object.spec.containers.all(i, c, i == 0 || c.all(k, v, k != 'image'))", [
+        'object.spec.containers is [{"image":"reg/a","name":"a"},{"image":"hub/b","name":"b"}]',
+        'item 1 of 2 decides: i is 1 and c is {"image":"hub/b","name":"b"}',
+        "  i == 0 || c.all(k, v, k != 'image') is false",
+        "    i == 0 is false",
+        "      i is 1",
+        "    c.all(k, v, k != 'image') is false",
+        '      c is {"image":"hub/b","name":"b"}',
+        '      item 0 of 2 decides: k is "image" and v is "hub/b"',
+        "        k != 'image' is false",
+        '          k is "image"',
+        "to be true: the index 1 of object.spec.containers has to be equal to 0, or the key 'image' of object.spec.containers[1] has "
+        "to be other than 'image'",
     ]),
     ("sets.contains(['a'], object.spec.args)", [
         'object.spec.args is ["x"]',

@@ -8,10 +8,11 @@ import tempfile
 from collections.abc import Iterator
 from typing import NoReturn
 
+from ...asking.index_tables import NEEDED
 from ...asking.program import NotAnswered
 from ...asking.translating import Translating, program_of
 from ...entry import Stop
-from ..checking import stop_at
+from ..checking import stop_at, tell
 from ..cluster import POLICY
 from ..inputs import STDIN, Inputs, Thing
 from ..linting import Fault, faults, place_of
@@ -23,8 +24,9 @@ from ..statuses import GOOD, REFUSED, WORDS
 from ..wide_linting import wide_faults
 
 MORE = """The image is the one that `celbpf compile` writes of the policy's translation, which `vapctl translate` prints; with
---profile, of the policy itself. `celbpf list` and `celbpf debug` read it. If the policy is refused, all refusals are shown
-as `vapctl lint` shows them, and no image is written."""
+--profile, of the policy itself. `celbpf list` and `celbpf debug` read it. If it reads params with a table of indices, a line
+on standard error says so. If the policy is refused, all refusals are shown as `vapctl lint` shows them, and no image is
+written."""
 
 
 def words(parser: argparse.ArgumentParser) -> None:
@@ -54,6 +56,8 @@ def run(given: argparse.Namespace) -> int:
         except NotAnswered as why:
             raise Stop(words_of_refusal(why.line), REFUSED) from why
         write(image, given.output)
+        if isinstance(program, Translating) and image in program.wrapped:
+            tell(f"the program reads {NEEDED}")
     return GOOD
 
 

@@ -57,13 +57,13 @@ def run(given: argparse.Namespace) -> int:
 def session(given: argparse.Namespace, folder: Path) -> int:
     """A session on the program of a policy."""
     decision = Decision(given, folder)
-    program = program_of(given, str(folder))
+    program = program_of(given, str(folder), beside((key, decision.files[key]) for key in ("review", "namespace", "params")))
     try:
         image = program.kept_image(decision.files["policy"])
     except NotAnswered as why:
         raise Stop(words_of_refusal(why.line), REFUSED) from why
-    files = ((key, decision.files[key]) for key in ("review", "namespace", "params"))
-    return run_session(program.path, [image, *beside(files)], lambda: parts_in(program, str(decision.files["policy"]), image))
+    words = [image, *program.given_to(image)]
+    return run_session(program.path, words, lambda: parts_in(program, str(decision.files["policy"]), image))
 
 
 def parts_in(program: Program, policy: str, image: str) -> Parts:

@@ -6,7 +6,9 @@ import tempfile
 from typing import Any
 
 from ...asking.gatekeeper import Gatekeeper
+from ...asking.index_tables import NEEDED, is_wrapped
 from ...asking.translating import gatekeeper_of
+from ..checking import tell
 from ..inputs import Inputs
 from ..one_decision import policy_text
 from ..positions import Marks
@@ -15,8 +17,9 @@ from ..wide_linting import wide_faults
 from .compile import one_policy, refuse
 
 MORE = """It prints the policy of the profile (docs/CEL.md) that is compiled for a policy as clusters store them, as JSON, which
-`celbpf` reads. It has the policy's name, and as annotations the text of each part as its author wrote it. If the policy is
-refused, all refusals are shown as `vapctl lint` shows them, and nothing is printed."""
+`celbpf` reads. It has the policy's name, and as annotations the text of each part as its author wrote it. If it reads params
+with a table of indices, a line on standard error says so. If the policy is refused, all refusals are shown as `vapctl lint`
+shows them, and nothing is printed."""
 
 
 def words(parser: argparse.ArgumentParser) -> None:
@@ -36,8 +39,10 @@ def run(given: argparse.Namespace) -> int:
         document = json.loads(policy_text(policy))
         if gatekeeper.refusal(document):
             refuse(wide_faults(gatekeeper, policy, Marks(inputs.texts[policy.place.file])))
-        translation = with_name(json.loads(gatekeeper.translation(document)), document)
-    print(json.dumps(translation, indent=2, ensure_ascii=False))
+        text = gatekeeper.translation(document)
+    print(json.dumps(with_name(json.loads(text), document), indent=2, ensure_ascii=False))
+    if is_wrapped(text):
+        tell(f"the translation reads {NEEDED}")
     return GOOD
 
 
