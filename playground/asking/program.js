@@ -2,6 +2,7 @@
 
 import { writeJson } from "../texts/json.js";
 import { slotsOf } from "../slots/lines.js";
+import { isWrapped, tabled } from "./index_tables.js";
 
 /**
  * The calls of the module. A status of 0 or 1 comes with a text or an image, any other with the line of a refusal.
@@ -15,6 +16,8 @@ import { slotsOf } from "../slots/lines.js";
  * }} Calls
  */
 /** @typedef {{ review: string | null, namespace: string | null, params: string | null }} Documents */
+/** A compiled translation, and whether it runs on params with a table of indices.
+ * @typedef {{ bytes: Uint8Array, isWrapped: boolean }} Image */
 
 /** The program refused what it was asked; `line` is what it said. */
 export class NotAnswered extends Error {
@@ -99,10 +102,17 @@ export class Program {
     }
   }
 
+  /** The image of a translation.
+   * @param {string} translation @returns {Image} */
+  imageOf(translation) {
+    const bytes = /** @type {Uint8Array} */ (taken(this.calls.compile(translation)).image);
+    return { bytes, isWrapped: isWrapped(translation) };
+  }
+
   /** The image of the translation of a policy that is accepted.
    * @param {string} policy */
   compiled(policy) {
-    return /** @type {Uint8Array} */ (taken(this.calls.compile(this.translation(policy))).image);
+    return this.imageOf(this.translation(policy));
   }
 
   /** The response to the review under a policy.
@@ -113,10 +123,10 @@ export class Program {
   }
 
   /** The lines of a session on an image.
-   * @param {Uint8Array} image @returns {(commands: string) => string[]} */
+   * @param {Image} image @returns {(commands: string) => string[]} */
   session(image) {
-    const { review, namespace, params } = this.documents;
-    return (commands) => taken(this.calls.debug(image, review, namespace, params, commands)).text.split("\n").slice(0, -1);
+    const { review, namespace, params } = image.isWrapped ? tabled(this.documents) : this.documents;
+    return (commands) => taken(this.calls.debug(image.bytes, review, namespace, params, commands)).text.split("\n").slice(0, -1);
   }
 
   /** The value of the first validation of a policy with one validation and no message, as `v` shows it.
@@ -124,7 +134,7 @@ export class Program {
   value(policy) {
     if (performance.now() > this.end) throw new NotAnswered("it takes too long to ask for all values", OUT_OF_TIME);
     const image = this.compiled(writeJson(policy));
-    const slot = afterExpression(taken(this.calls.list(image)).text), session = this.session(image);
+    const slot = afterExpression(taken(this.calls.list(image.bytes)).text), session = this.session(image);
     // one line goes on far enough, but for a run of more than a million steps
     for (let count = 1; count <= MOST_LINES; count++) {
       const go = `b ${slot}\n${GO.repeat(count)}`, replies = session(`${go}r\n`), move = replies[count];

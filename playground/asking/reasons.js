@@ -190,7 +190,26 @@ class Reasons {
    * @param {Piece} piece @param {Frame[]} frames */
   place(piece, frames) {
     if (isPathOr(piece) && isSome(this.value(piece.parts[0], frames))) piece = piece.parts[0];
-    let text = plain(this.text(piece));
+    const text = plain(this.text(piece));
+    return this.key(text, frames) || this.standing(text, frames);
+  }
+
+  /** The key or the index that a name stands for, in words; empty if it stands for none.
+   * @param {string} text @param {Frame[]} frames */
+  key(text, frames) {
+    for (let depth = frames.length - 1; depth >= 0; depth--) {
+      const [range, names, place] = frames[depth], [name, ...keys] = names.split(" ").reverse();
+      if (text === name) return "";
+      if (!keys.includes(text)) continue;
+      const path = plain(range.trim()), of = PATH.test(path) ? ` of ${this.standing(path, frames.slice(0, depth))}` : "";
+      return `the ${typeof place === "number" ? "index" : "key"} ${place}${of}`;
+    }
+    return "";
+  }
+
+  /** A text with what the iteration names of these frames stand for.
+   * @param {string} text @param {Frame[]} frames */
+  standing(text, frames) {
     for (let depth = frames.length - 1; depth >= 0; depth--) {
       const [range, names, place] = frames[depth], path = plain(range.trim());
       const keys = names.split(" "), name = /** @type {string} */ (keys.pop());

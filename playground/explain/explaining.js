@@ -1,5 +1,6 @@
 // All that a page shows of a case: the decision, the parts with their trees, the review with its marks, and the run.
 
+import { ownPath } from "../asking/index_tables.js";
 import { parts } from "../asking/policies.js";
 import { NotAnswered, Program } from "../asking/program.js";
 import { readsOf } from "../runs/reads.js";
@@ -104,7 +105,9 @@ export class Explaining {
       this.program.end = performance.now() + this.patience;
       const made = new Parts(this.program, policy, shown);
       const names = parts(policy).filter((part) => part.kind === "variable").map((part) => part.name);
-      const review = new ReviewTree(readsOf(shown.found, names, shown.run.values)).all(shown.run.values);
+      const reads = readsOf(shown.found, names, shown.run.values);
+      if (shown.image.isWrapped) reads.change(ownPath);
+      const review = new ReviewTree(reads).all(shown.run.values, shown.image.isWrapped);
       const all = made.all();
       return { outcome: made.outcome, said: outcomeWords(made.outcome, all), parts: all, review, words: "" };
     } catch (why) {

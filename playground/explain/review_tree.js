@@ -1,5 +1,6 @@
 // The review as a page shows it, with the fields that the run read marked.
 
+import { ownParams, PARAMS } from "../asking/index_tables.js";
 import { FIRST_ROOT, ROOTS } from "../slots/expressions.js";
 import { isRecord, readJson, writeJson } from "../texts/json.js";
 import { pathKey } from "../runs/reads.js";
@@ -62,11 +63,12 @@ export class ReviewTree {
     return [...shown.map(([key, one]) => this.field([...path, key], one)), ...missing];
   }
 
-  /** All roots that are not null or were read.
-   * @param {Map<bigint, string>} values @returns {Field[]} */
-  all(values) {
+  /** All roots that are not null or were read; of params with a table of indices the policy's own.
+   * @param {Map<bigint, string>} values @param {boolean} isWrapped @returns {Field[]} */
+  all(values, isWrapped) {
     return ROOTS.flatMap((root, place) => {
-      const value = readJson(values.get(BigInt(FIRST_ROOT + place)) ?? "null");
+      const placed = readJson(values.get(BigInt(FIRST_ROOT + place)) ?? "null");
+      const value = isWrapped && root === PARAMS ? ownParams(placed) : placed;
       return value !== null || this.reads.paths.has(pathKey([root])) ? [this.field([root], value)] : [];
     });
   }

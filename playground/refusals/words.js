@@ -15,9 +15,7 @@ import { syntaxTold } from "./syntax.js";
 const NAMES = ["object", "oldObject", "params", "namespaceObject", "request", "variables"];
 // names of types, which are no values here
 const TYPES = ["int", "uint", "double", "string", "bool", "bytes", "null_type", "list", "map", "type"];
-// macros of two names whose kin of one name has another
-/** @type {Record<string, string>} */
-const OF_ONE_NAME = { transformList: "map", existsOne: "exists_one" };
+const INDEX_HINT = "a macro over each list of the sum, or one with a single name";
 // a name after a dot, and a minus
 const DASHED = /\.([A-Za-z_]\w*(?:-[A-Za-z_]\w*)*)-$/;
 const AS_VALUE = "`.orValue(..)` for its value, or `.hasValue()`";
@@ -121,9 +119,7 @@ function leafTold(name, text) {
  * @param {Found} found @returns {Told} */
 function formTold({ piece }) {
   if (piece && piece.kind === "macro") {
-    const word = OF_ONE_NAME[piece.word] ?? piece.word;
-    const hint = `\`m.${word}(k, ..)\` of a map, with \`m[k]\` for the value, or \`l.${word}(x, ..)\` of a list, whose items have no index`;
-    return [`\`${piece.name.split(" ")[0]}\` may be used only if the range is known to be a map`, hint];
+    return ["a macro uses the index or key of what may be longer than the documents' lists and maps, as a sum may", INDEX_HINT];
   }
   return [meaning("W5"), ""];
 }

@@ -58,6 +58,16 @@ export class Reads {
     return { path };
   }
 
+  /** Changes each path; one that has no other is left out.
+   * @param {(path: Path) => Path | null} change */
+  change(change) {
+    for (const paths of [this.paths, this.missing]) {
+      const changed = [...paths.values()].map(change);
+      paths.clear();
+      for (const path of changed) if (path) paths.set(pathKey(path), path);
+    }
+  }
+
   /** The path of a field, if it is one of the review.
    * @param {Evaluation} one @param {Origin} base @returns {Origin} */
   field(one, base) {

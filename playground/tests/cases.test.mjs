@@ -67,6 +67,20 @@ test("a tree of what is translated has the author's text, with the step at which
   assert.ok(translation.source.includes("has(object.spec.replicas)") && translation.tree.step === tree.step);
 });
 
+test("a policy that uses the first name of two runs on params with a table of indices, and is shown with its own params", ASKING, () => {
+  const policy = policyOf("object.l.all(i, x, i != params.at)", "object.m.all(k, v, k != v || params.?on.orValue(false))"), l = Array.from({ length: 18 }, (_, place) => place + 1);
+  const shown = explaining({ policy, review: reviewed({ l, m: { a: "a", b: "c" } }), params: '{"apiVersion": "v1", "kind": "ConfigMap", "at": 17}' });
+  assert.deepEqual([shown.decision().outcome, shown.decision().message], ["denied", "failed expression: object.l.all(i, x, i != params.at); failed expression: object.m.all(k, v, k != v || params.?on.orValue(false))"]);
+  const { parts, review, words } = shown.explanation(), [first, second] = parts;
+  assert.deepEqual([words, first.title, first.value, first.hint, second.value, second.hint], ["", "validation 0", "false", "to be true: the index 17 of object.l has to be other than 17 (params.at)", "false",
+    "to be true: the key 'a' of object.m has to be other than \"a\" (object.m['a']), or params.on has to be true"]);
+  const names = first.tree.below.map((one) => one.text);
+  assert.deepEqual([names.length, names[1], names[11], first.tree.below[11].value], [12, "item 0: i = 0, x = 1", "item 17: i = 17, x = 18", "false"]);
+  const params = review.find((one) => one.name === "params"), fields = params.below.map((one) => [one.name, one.isRead, one.isMissing ?? false]);
+  assert.deepEqual(fields, [["apiVersion", false, false], ["at", true, false], ["kind", false, false], ["on", true, true]]);
+  assert.ok(first.translation.source.includes("params.t.n") && shown.runData() && shown.replies("v 6").startsWith('value 6 {"t":{"n":[0,1,2,3,4,5,6,7,8,9,10,11,12,13,14,15,16,17]},"v":{'));
+});
+
 test("a part that is evaluated after the steps of the page is asked", ASKING, () => {
   const review = reviewed({ l: Array.from({ length: 3000 }, (_, place) => place) });
   const [part] = explaining({ policy: policyOf("object.l.all(x, x < 5)", "object.l.all(x, x >= 0)"), review }).explanation().parts;

@@ -20,7 +20,7 @@ const EXPRESSIONS = [
   "object.items.all(1, true)", "object.items.all(celbpf_x, true)", "has(object)", "has(object.a, 1)", "1.5 < object.a", "1u + 2u == 3u",
   "b'abc' == object.a", "object.?a", "object.?a.orValue(1) == optional.of(1)", "object.a.orValue(1)", "optional.of(object.a)", "variables.x == 1",
   "variables.nope == 1", "authorizer.group('apps').resource('deployments').check('create').allowed()", "cel.bind(x, 1, x == 1)",
-  "math.greatest(1, 2) == 2", "object.a.transformMap(k, v, v)", "object.a.all(k, v, v == 1)", "object.map(k, v, v)", "type(object.a) == string",
+  "math.greatest(1, 2) == 2", "object.a.transformMap(k, v, v)", "object.a.all(k, v, v == 1)", "(object.a + object.b).all(i, v, i == 1)", "(object.a + object.b).exists(v, v.all(i, x, i == x))", "object.map(k, v, v)", "type(object.a) == string",
   "int(object.a) == 1", "string == 'a'", "sets == 1", "'abc", "\"abc", "'\\q' == object.a", "'a\\u12' == object.a",
   "99999999999999999999 == object.a", "object.a == 1 2", "object.a..b", "object.a.", ".object", "object.a ? 1 : 'x'", "object.a ? true", "!1",
   "-'a' == 1", "-object == 1", "object['a'][1 > 2]", "{1: 2}.a == 1", "{'a': 1, 'b'} == 1", "object.items.filter(x, x + 1)",
