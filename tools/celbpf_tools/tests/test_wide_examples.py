@@ -1,4 +1,4 @@
-"""The policies of examples/wide decide their tests as the evaluator does, also those that are not translated yet."""
+"""The policies of examples/wide decide their tests as the evaluator does."""
 
 import tempfile
 import unittest
@@ -12,8 +12,6 @@ from ..wide import policies
 from .wide_stand_in import answer
 
 EXAMPLES = sorted((ROOT / "examples" / "wide").glob("*/policy.yaml"))
-# what policies that are refused are to decide
-LATER = "later.yaml"
 
 
 @unittest.skipUnless(yaml_package(), "there is no yaml")
@@ -24,10 +22,9 @@ class Examples(unittest.TestCase):
         self.asked = Asked(Path(folder.name))
 
     def test_outcomes_and_messages(self) -> None:
-        self.assertEqual(len(EXAMPLES), 10)
+        self.assertEqual(len(EXAMPLES), 12)
         for policy in EXAMPLES:
-            later = policy.with_name(LATER)
-            for case in read(later if later.exists() else policy.with_name("tests.yaml")).cases:
+            for case in read(policy.with_name("tests.yaml")).cases:
                 with self.subTest(f"{policy.parent.name}: {case.name}"):
                     self.assertEqual(self.failures(policy, case), [])
 
