@@ -1,6 +1,6 @@
 """Compares a gatekeeper with an evaluator of the wide language, on expressions from a seed.
 
-usage: tools/wide-cases [--seed N] [--count N] [--all] [GATEKEEPER]
+usage: tools/wide-cases [--lists] [--seed N] [--count N] [--all] [GATEKEEPER]
        tools/wide-cases --profile-only [--seed N] [--count N] [--all] [GATEKEEPER]
        tools/wide-cases --evaluator [--seed N] [--count N]
 
@@ -8,7 +8,8 @@ The wide language is a wider part of CEL than the profile: it has optionals, mac
 Kubernetes such as quantity. The first form makes N expressions (by default 20,000) with variables, and for each of them
 three reviews whose documents have nulls, absent fields and values of other kinds. Two policies show whether the
 gatekeeper has the value that tools/celbpf_tools/wide gives, or the error. What it refuses with W4 or W5, since it does
-not translate it yet, is counted apart.
+not translate it yet, is counted apart. With --lists the expressions have no functions of texts and no quantities, so that
+more of them have optionals, indices of lists and keys of maps.
 
 --profile-only makes expressions until N (5,000) are in the profile of docs/CEL.md too and mean the same there, and
 compares the gatekeeper with its option --profile on these. Each form also compares the trees and results with those of
@@ -42,6 +43,7 @@ WIDE_SHARE, PROFILE_SHARE = 60, 4
 def words() -> argparse.Namespace:
     parser = parser_of(__doc__)
     parser.add_argument("gatekeeper", nargs="?", default=built("gatekeeper"))
+    parser.add_argument("--lists", action="store_true")
     parser.add_argument("--profile-only", action="store_true")
     parser.add_argument("--evaluator", action="store_true")
     parser.add_argument("--all", action="store_true")
@@ -107,7 +109,7 @@ def clauses_shown(clauses: Clauses) -> int:
 def compared(run: Run) -> Iterator[tuple[Any, ...]]:
     """The place of each case that differs, with the case and its difference."""
     share = PROFILE_SHARE if run.given.profile_only else WIDE_SHARE
-    made = cases(Numbers(run.given.seed), share, REVIEWS)
+    made = cases(Numbers(run.given.seed), share, REVIEWS, run.given.lists)
     for place in itertools.count():
         if run.is_done(place):
             return

@@ -119,6 +119,13 @@ REFUSALS = [
 ]
 
 
+# what API servers refuse by a kind that gatekeeper does not know, and is the error there
+UNKNOWN_KINDS = [
+    "[1, 2].all(x, x)", "[1, 2].exists(i, x, x)", "optional.of('a').optMap(e, e && true).hasValue()", "optional.of([1]).?a.hasValue()",
+    "{'a': 1}[?1].hasValue()",
+]
+
+
 def result_of(expression: str, variables: Any = None) -> Any:
     """The result of an expression over ROOTS and variables, a dict to their expressions."""
     meaning, scope = Meaning(ROOTS, {}), Scope()
@@ -148,6 +155,15 @@ class Refusals(unittest.TestCase):
         for expression, due in REFUSALS:
             with self.subTest(expression):
                 self.assertEqual(refusal_of(expression), due)
+
+
+class Kinds(unittest.TestCase):
+    def test_kinds_that_are_not_known(self) -> None:
+        for expression in UNKNOWN_KINDS:
+            with self.subTest(expression):
+                self.assertRegex(refusal_of(expression), "^Y2 at ")
+                tree = taken(expression, Scope(knows_items=False))
+                self.assertIs(Meaning(ROOTS, {}).of(tree), ERROR)
 
 
 if __name__ == "__main__":

@@ -11,7 +11,7 @@ from .calling import NotDecided
 from .clauses import Clauses
 from .documents import Pool
 from .expression import Scope, taken, variable
-from .expressions import WideExpressions
+from .expressions import LIST_FORMS, WideExpressions
 from .meaning import Meaning
 from .texts import BLANKS
 
@@ -39,26 +39,30 @@ class Case:
 
 @dataclass
 class Due:
-    """The refusal of a case, or a result for each review, with the clauses that the profile defines otherwise."""
+    """The refusal of a case, or a result for each review, with the clauses that the profile defines otherwise.
+
+    A case that is refused for a kind that a gatekeeper does not know has results too.
+    """
 
     refusal: str = ""
     results: list[Any] = field(default_factory=list)
     apart: list[Any] = field(default_factory=list)
 
 
-def cases(numbers: Any, share: int, reviews: int) -> Iterator[Case]:
-    """Cases from a seed."""
-    pool = Pool(numbers)
+def cases(numbers: Any, share: int, reviews: int, of_lists: bool = False) -> Iterator[Case]:
+    """Cases from a seed; `of_lists` leaves out functions of texts and typed values."""
+    pool, forms = Pool(numbers), LIST_FORMS if of_lists else None
+    typed = [] if of_lists else TYPED
     while True:
         kinds: dict[str, Any] = {}
         variables = {}
         for name in numbers.some(VARIABLES, 3):
-            others = [*(f"optional {one}" for one in KINDS), *TYPED]
+            others = [*(f"optional {one}" for one in KINDS), *typed]
             kind = numbers.pick([*KINDS, *others] if numbers.below(100) < share else KINDS)
-            maker = WideExpressions(numbers, dict(kinds), ROOTS, share)
+            maker = WideExpressions(numbers, dict(kinds), ROOTS, share, forms)
             variables[name] = made(maker, kind, numbers.below(3))
             kinds[name] = kind
-        maker = WideExpressions(numbers, kinds, ROOTS, share)
+        maker = WideExpressions(numbers, kinds, ROOTS, share, forms)
         text = maker.text(numbers.pick(["bool", "bool", *KINDS]), 1 + numbers.below(4))
         if numbers.one_in(20):
             text = spoiled(numbers, text)
@@ -102,17 +106,26 @@ def result_of(tree: Any, variables: dict[str, Any], roots: dict[str, Any], claus
         return why
 
 
+def trees(case: Case, knows_items: bool) -> tuple[Any, ...]:
+    """The trees of the variables and of the expression; raises Refused."""
+    scope, variables = Scope(knows_items=knows_items), {}
+    for name, text in case.variables.items():
+        # a policy's expressions are read without the blanks around them
+        variables[name] = variable(name, text.strip(BLANKS), scope)
+    return variables, taken(case.text.strip(BLANKS), scope)
+
+
 def due(case: Case, clauses: Clauses) -> Due:
     """What the definition says of a case."""
-    scope, variables = Scope(), {}
-    try:
-        for place, (name, text) in enumerate(case.variables.items()):
-            variables[name] = variable(name, text.strip(BLANKS), scope)
-        # a policy's expressions are read without the blanks around them
-        tree = taken(case.text.strip(BLANKS), scope)
-    except Refused as why:
-        return Due(why.text)
     found = Due()
+    try:
+        variables, tree = trees(case, True)
+    except Refused as why:
+        found.refusal = why.text
+        try:
+            variables, tree = trees(case, False)
+        except Refused:
+            return found
     for roots in case.roots:
         own = Clauses()
         found.results.append(result_of(tree, variables, roots, own))

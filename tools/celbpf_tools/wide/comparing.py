@@ -97,14 +97,14 @@ class Compared:
 
     def __init__(self, options: tuple[Any, ...] = ()) -> None:
         self.options = options
-        self.expressions = self.values = self.errors = self.stopped = 0
+        self.expressions = self.values = self.errors = self.stopped = self.taken = 0
         self.too_large = self.refused = self.not_yet = 0
 
     def line(self) -> str:
         return (
             f"{self.expressions} expressions: {self.values} values, {self.errors} errors; "
-            f"{self.refused} refused, {self.not_yet} not translated yet, {self.too_large} too large, "
-            f"{self.stopped} reviews not decided"
+            f"{self.taken} of unknown kinds that are known to be wrong, {self.refused} refused, {self.not_yet} not translated yet, "
+            f"{self.too_large} too large, {self.stopped} reviews not decided"
         )
 
     def difference(self, program: Any, case: Case, due: Due) -> Optional[str]:
@@ -116,9 +116,9 @@ class Compared:
             self.refused += 1
         elif is_refused and NOT_YET.search(errors):
             self.not_yet += 1
-        elif is_refused and not due.refusal and TOO_LARGE.search(errors):
+        elif is_refused and (due.results or not due.refusal) and TOO_LARGE.search(errors):
             self.too_large += 1
-        elif due.refusal:
+        elif due.refusal and (is_refused or not due.results):
             return errors or f"it is accepted, and {due.refusal} is due"
         else:
             return self.answered(ended, due)
@@ -140,4 +140,5 @@ class Compared:
                 self.errors += result is ERROR
                 self.values += result is not ERROR
         self.expressions += 1
+        self.taken += bool(due.refusal)
         return None

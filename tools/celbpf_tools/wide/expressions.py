@@ -4,28 +4,17 @@ from typing import Any
 
 from ..seeded.expressions import KINDS, MEMBER, NAMES, RELATION, SUM, TERNARY, UNARY
 from ..seeded.texts import text_literal
-from .optional_forms import OptionalForms
+from .list_forms import HIDING, LISTS, NEITHER, ListForms
 from .typed_forms import TypedForms
 
-# names of roots, which an iteration name may hide
-HIDING = ["request", "object", "params", "variables"]
-# ranges of macros with two names whose keys or values are mostly of these kinds
-PAIRS = [
-    ("object.metadata.labels", "text", "text"), ("object.spec.limits", "text", "int"),
-    ("object.spec.args", "int", "text"), ("object.spec.ports", "int", "int"),
-    ("object.spec.containers", "int", "map"), ("params.names", "int", "text"),
-    ("object.metadata.annotations", "text", "text"), ("[3, 1, 2]", "int", "int"), ("{'b': 1, 'a': 2}", "text", "int"),
-]
-NEITHER = ["object.spec.replicas", "object.metadata.name", "object.spec.none", "oldObject"]
-LISTS = ["object.spec.ports", "object.spec.args", "params.names", "request.userInfo.groups", "[2, 1, 2]", "['b', 'a']"]
 
+class WideExpressions(ListForms, TypedForms):
+    """Makes wide expressions; `share` of a hundred parts have a form that the profile lacks, which is one of `forms`."""
 
-class WideExpressions(OptionalForms, TypedForms):
-    """Makes wide expressions; `share` of a hundred parts have a form that the profile lacks."""
-
-    def __init__(self, numbers: Any, variables: dict[str, Any], roots: list[Any], share: int):
+    def __init__(self, numbers: Any, variables: dict[str, Any], roots: list[Any], share: int, forms: Any = None):
         super().__init__(numbers, variables, roots)
         self.share = share
+        self.forms: dict[str, list[Any]] = forms or FORMS
 
     def widens(self) -> bool:
         """Whether the next choice is for a form that the profile lacks."""
@@ -35,7 +24,7 @@ class WideExpressions(OptionalForms, TypedForms):
         numbers = self.numbers
         if room <= 0 or not self.widens():
             return super().make(kind, max(room, 0))
-        form = numbers.pick(ANY if numbers.one_in(4) else FORMS[kind])
+        form = numbers.pick(ANY if numbers.one_in(4) else self.forms[kind])
         return form(self, kind, room - 1)
 
     def path(self, kind: str) -> str:
@@ -69,12 +58,10 @@ class WideExpressions(OptionalForms, TypedForms):
     def over_pairs(self, word: str, kinds: list[Any], room: int) -> str:
         """A macro with a name for keys or indices, and one for values."""
         numbers = self.numbers
-        target, of_key, of_value = numbers.pick(PAIRS)
-        if numbers.one_in(12):
-            target = numbers.pick(NEITHER)
+        target, of_key, of_value = self.pairs(room)
         if word == "exists_one" and numbers.one_in(2):
             word = "existsOne"
-        key, value = numbers.pick(["k", "i", "x"]), numbers.pick(["v", "y", self.iteration_name()])
+        key, value = numbers.pick(["k", "i", "x", self.iteration_name()]), numbers.pick(["v", "y", self.iteration_name()])
         if key == value:
             value = "w"
         self.names += [(key, of_key), (value, of_value)]
@@ -116,8 +103,6 @@ class WideExpressions(OptionalForms, TypedForms):
 
     def list_tested(self, _: str, room: int) -> tuple[str, int]:
         numbers = self.numbers
-        if numbers.one_in(2):
-            return f"{numbers.pick(LISTS)}.isSorted()", MEMBER
         left, right = (numbers.pick(LISTS) if numbers.one_in(2) else self.part("list", room, TERNARY) for _ in "ab")
         return f"sets.{numbers.pick(['contains', 'intersects', 'equivalent'])}({left}, {right})", MEMBER
 
@@ -148,11 +133,6 @@ class WideExpressions(OptionalForms, TypedForms):
         quote, said = self.numbers.pick(["'''", '"""']), self.numbers.pick(["it's", "", 'a"b', "a\nb"])
         return self.numbers.pick(["", "r", "R"]) + quote + said + quote, MEMBER
 
-    def listed(self, _: str, room: int) -> tuple[str, int]:
-        numbers, target = self.numbers, self.numbers.pick(LISTS)
-        begin, end = numbers.below(3), numbers.below(4)
-        return f"{target}.{numbers.pick(['distinct()', 'reverse()', f'slice({begin}, {end})'])}", MEMBER
-
     def transformed(self, _: str, room: int) -> tuple[str, int]:
         kind = self.numbers.pick(KINDS)
         kinds = ["bool", kind] if self.numbers.one_in(3) else [kind]
@@ -161,23 +141,26 @@ class WideExpressions(OptionalForms, TypedForms):
 
 E = WideExpressions
 ANY: list[Any] = [E.or_value, E.or_value, E.or_value, E.value, E.hidden_root, E.quoted]
-FORMS: dict[str, list[Any]] = {
+# forms of optionals, lists and maps
+LIST_FORMS: dict[str, list[Any]] = {
     "bool": [
         E.has_value, E.has_value, E.equal_optionals, E.equal_optionals, E.presence_in_optional,
         E.quantifier_of_pairs, E.quantifier_of_pairs, E.quantifier, E.in_empty, E.below_uint, E.list_tested,
-        E.presence_quoted, E.compared_typed, E.compared_typed, *[E.bool_of_text] * 4, E.type_tested,
-        E.matched, E.logic, E.presence,
+        E.sorted_list, E.presence_quoted, E.logic, E.presence,
     ],
-    "int": [
-        *[E.int_of_typed] * 5, E.place_of, E.summed, E.doubled, E.or_value, E.or_value, E.end_of_list, E.sum,
-    ],
-    "text": [
-        E.text_of_any, E.joined, E.long_text, E.cut, E.cut, E.formatted, E.or_value, E.or_value, E.end_of_list,
-        E.found,
-    ],
+    "int": [E.place_in_list, E.doubled, E.or_value, E.or_value, E.end_of_list, E.sum],
+    "text": [E.text_of_any, E.long_text, E.or_value, E.or_value, E.end_of_list],
     "list": [
-        E.optional_items, E.optional_items, E.listed, E.transformed, E.transformed, E.cut, E.found, E.filtered,
-        E.mapped, E.or_value,
+        E.optional_items, E.optional_items, E.other_list, E.transformed, E.transformed, E.filtered, E.mapped, E.or_value,
     ],
     "map": [E.optional_entries, E.optional_entries, E.or_value],
 }
+# beside these functions of texts, and typed values
+OTHER_FORMS: dict[str, list[Any]] = {
+    "bool": [E.compared_typed, E.compared_typed, *[E.bool_of_text] * 4, E.type_tested, E.matched],
+    "int": [*[E.int_of_typed] * 5, E.place_of, E.summed],
+    "text": [E.joined, E.cut, E.cut, E.formatted, E.found],
+    "list": [E.cut, E.found],
+    "map": [],
+}
+FORMS = {kind: [*forms, *OTHER_FORMS[kind]] for kind, forms in LIST_FORMS.items()}

@@ -61,10 +61,16 @@ def sum_of_times(sign: str, given: list[Any]) -> Any:
 
 
 class Kinds(Calls):
-    """Kinds over variables, a dict from their names to kinds."""
+    """Kinds over variables, a dict from their names to kinds.
 
-    def __init__(self, variables: dict[str, Any]):
+    With `knows_items`, as API servers do, an iteration name over a list literal has the kind of its items, and what an
+    optional has is of the kind that this carries, for an iteration name, a field and an index. An optional index fits what it
+    is asked of. A gatekeeper knows none of these.
+    """
+
+    def __init__(self, variables: dict[str, Any], knows_items: bool = True):
         self.variables = variables
+        self.knows_items = knows_items
 
     def of(self, tree: Any, names: dict[str, Any]) -> Any:
         """The kind of a tree under iteration names, a dict to their kinds."""
@@ -94,8 +100,12 @@ class Kinds(Calls):
         """The plain kind that a tree has or carries, and whether it is an optional."""
         given = self.of(tree, names)
         if isinstance(given, Opt):
-            return self.has_to_be_plain(tree, given.inner), True
+            return self.carried(self.has_to_be_plain(tree, given.inner)), True
         return self.has_to_be_plain(tree, given), False
+
+    def carried(self, inner: str) -> str:
+        """The kind of what an optional has, as far as it is known."""
+        return "Dyn" if inner in PLAIN and not self.knows_items else inner
 
     def field(self, tree: Field, names: dict[str, Any]) -> Any:
         if is_variables(tree.operand, names):
@@ -110,7 +120,8 @@ class Kinds(Calls):
     def index(self, tree: Index, names: dict[str, Any]) -> Any:
         given, carried = self.inside(tree.operand, names)
         key = self.plain(tree.key, names)
-        by_the_profile(tree.place, types.of_index, "Dyn" if carried else given, key)
+        if self.knows_items or not tree.optional:
+            by_the_profile(tree.place, types.of_index, "Dyn" if carried else given, key)
         return OPTIONAL_DYN if carried or tree.optional else "Dyn"
 
     def presence(self, tree: Has, names: dict[str, Any]) -> str:
@@ -191,7 +202,7 @@ class Kinds(Calls):
             return self.over_optional(tree, names)
         given = self.plain(tree.range, names)
         inner = {**names, **dict.fromkeys(tree.names, "Dyn")}
-        if isinstance(tree.range, ListLiteral):
+        if isinstance(tree.range, ListLiteral) and self.knows_items:
             kinds = set(self.items(tree.range, names))
             # the last name is the item's
             inner[tree.names[-1]] = kinds.pop() if len(kinds) == 1 else "Dyn"
@@ -206,7 +217,7 @@ class Kinds(Calls):
         given, transform = self.of(tree.range, names), tree.transform
         if not isinstance(given, Opt):
             refuse("Y2" if given in PLAIN else "W4", tree.range.place)
-        result = self.of(transform, {**names, tree.names[0]: given.inner})
+        result = self.of(transform, {**names, tree.names[0]: self.carried(given.inner)})
         if tree.word == "optFlatMap":
             return result if isinstance(result, Opt) else refuse("Y2", transform.place)
         return Opt(result) if result in PLAIN + TYPED else refuse("W4", transform.place)
@@ -219,6 +230,6 @@ OF_NODES: dict[type, Callable[..., Any]] = {
 }
 
 
-def kind_of(tree: Any, variables: dict[str, Any]) -> Any:
+def kind_of(tree: Any, variables: dict[str, Any], knows_items: bool = True) -> Any:
     """The kind of a tree, or the first of its refusals."""
-    return Kinds(variables).of(tree, {})
+    return Kinds(variables, knows_items).of(tree, {})

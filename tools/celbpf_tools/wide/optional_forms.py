@@ -13,6 +13,9 @@ MAPS = ["object.metadata.labels", "object.spec.limits", "object.metadata.annotat
 class OptionalForms(Expressions):
     """Optionals of a kind: each is a text that binds as a member does."""
 
+    # the forms of optionals
+    optionals: list[Any] = []
+
     def optional(self, kind: str, room: int) -> str:
         """An optional whose value is mostly of a kind."""
         numbers = self.numbers
@@ -21,7 +24,7 @@ class OptionalForms(Expressions):
             return f"variables.{numbers.pick(known)}"
         if room <= 0 or numbers.one_in(2):
             return self.optional_step(kind)
-        return numbers.pick(OPTIONALS)(self, kind, room - 1)
+        return numbers.pick(self.optionals)(self, kind, room - 1)
 
     def optional_step(self, kind: str) -> str:
         """A path with a `?` in it."""
@@ -134,7 +137,7 @@ class OptionalForms(Expressions):
         return f"{{{', '.join(entries)}}}", MEMBER
 
 
-OPTIONALS: list[Any] = [
+OptionalForms.optionals = [
     OptionalForms.optional_index, OptionalForms.optional_index, OptionalForms.optional_field,
     OptionalForms.optional_field, OptionalForms.optional_of, OptionalForms.optional_none,
     OptionalForms.optional_map, OptionalForms.optional_flat_map, OptionalForms.optional_or,

@@ -15,8 +15,6 @@ FUNCTIONS = (
 METHODS = (*OF_TEXTS, "matches", "find", "findAll")
 # the functions of texts whose results are no texts that others could take
 TYPED = ("quantity", "duration", "timestamp", "semver", "ip", "cidr")
-# the lists whose indices have to be known
-INDEXED = ("isSorted", "distinct", "reverse", "slice", "indexOf", "lastIndexOf", "join")
 OF_ITEMS = ("min", "max", "first", "last")
 KINDS_WITH_TEXTS = ("int", "string", "list", "map")
 
@@ -29,15 +27,6 @@ def is_list(tree: Any) -> bool:
     if isinstance(tree, Macro):
         return tree.word in ("map", "filter", "transformList")
     return isinstance(tree, ListLiteral) or isinstance(tree, Method) and tree.method in LISTS
-
-
-def uses(tree: Any, name: str) -> bool:
-    """Whether an iteration name is used in a tree."""
-    if isinstance(tree, Name):
-        return tree.name == name and not tree.dotted
-    if isinstance(tree, Macro) and name in tree.names:
-        return uses(tree.range, name)
-    return any(uses(part, name) for part in parts(tree))
 
 
 class Reach:
@@ -120,17 +109,12 @@ class Reach:
         tested = format_tested(tree)
         if tested:
             self.demand(tested[1], names, tested[0])
-        elif tree.method in INDEXED and (tree.method not in METHODS or is_list(tree.target)):
-            self.demand(tree.target, names, tree.method)
-        elif tree.method in METHODS:
+        elif tree.method in METHODS and not is_list(tree.target):
             for part in parts(tree):
                 self.demand(part, names, tree.method)
 
     def check_macro(self, tree: Macro, names: dict[str, Any]) -> None:
         self.check(tree.range, names)
-        is_indexed = len(tree.names) == 2 and not isinstance(tree.range, MapLiteral)
-        if is_indexed and any(uses(part, tree.names[0]) for part in bodies(tree)):
-            self.demand(tree.range, names, tree.word)
         for part in bodies(tree):
             self.check(part, self.inner(tree, names))
 

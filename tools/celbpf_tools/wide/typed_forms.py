@@ -167,10 +167,8 @@ class TypedForms(Expressions):
         ]), MEMBER
 
     def place_of(self, _: str, room: int) -> tuple[Any, ...]:
-        """The place of a part in a text, or of an item in a list."""
+        """The place of a part in a text."""
         numbers, word = self.numbers, self.numbers.pick(["indexOf", "lastIndexOf"])
-        if numbers.one_in(3):
-            return f"object.spec.{numbers.pick(['args', 'ports'])}.{word}({self.any(room, TERNARY)})", MEMBER
         offset = numbers.pick(["", "", ", 0", ", 2", ", -1", ", 50"])
         return f"{self.reached_text()}.{word}({text_literal(numbers, numbers.pick(PARTS))}{offset})", MEMBER
 
