@@ -10,8 +10,8 @@ import { readJson } from "../texts/json.js";
 
 export const ERROR = "error", NONE = "optional.none()";
 const SOME = "optional.of(";
-// the refusal of a value that is an optional one
-const OPTIONAL = "W4";
+// the refusal of a value that is an optional one, and that of a form, which hides it if a table of indices is needed
+const OPTIONAL = "W4", FORM = / W5$/;
 // the most items of a list that are asked one by one
 export const MOST_ITEMS = 100;
 // which part of a conditional is evaluated after its condition
@@ -77,7 +77,7 @@ export class Asking {
     try {
       return this.program.value(asking(this.scope, bound(text, frames)));
     } catch (why) {
-      if (!(why instanceof NotAnswered) || causeOf(why.line) !== OPTIONAL) throw why;
+      if (!(why instanceof NotAnswered) || (causeOf(why.line) !== OPTIONAL && !FORM.test(why.line))) throw why;
     }
     const listed = this.program.value(asking(this.scope, bound(`[?(\n${text}\n)]`, frames)));
     if (listed === ERROR) return ERROR;

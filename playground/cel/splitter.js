@@ -318,7 +318,7 @@ const isLiteralWord = (word) => LITERAL.test(word);
 /** Whether a piece says its value itself.
  * @param {Piece} piece @returns {boolean} */
 export function isLiteral(piece) {
-  if (piece.form === "list") return piece.parts.every(isLiteral);
+  if (piece.form === "list" || piece.form === "map") return piece.parts.every(isLiteral);
   return piece.kind === "leaf" && isLiteralWord(piece.word);
 }
 

@@ -50,7 +50,7 @@ def is_path(piece: Piece) -> bool:
 
 def is_literal(piece: Piece) -> bool:
     """Whether a piece says its value itself."""
-    if piece.form == "list":
+    if piece.form in ("list", "map"):
         return all(map(is_literal, piece.parts))
     return piece.kind == "leaf" and bool(LITERAL.match(piece.word))
 

@@ -8,8 +8,13 @@ from .program import NotAnswered, Program
 
 ERROR = "error"
 NONE, SOME = "optional.none()", "optional.of("
-# the refusal of a value that is an optional one
-OPTIONAL = "W4"
+# the refusal of a value that is an optional one, and that of a form, which hides it if a table of indices is needed
+OPTIONAL, FORM = "W4", "W5"
+
+
+def may_be_optional(refusal: str) -> bool:
+    """Whether a value of which this is the refusal may be an optional one."""
+    return cause_of(refusal) == OPTIONAL or refusal.endswith(f" {FORM}")
 
 
 def is_some(value: str) -> bool:
@@ -37,7 +42,7 @@ class Values:
         try:
             return self.program.value(asking(self.scope, bound(text, frames)))
         except NotAnswered as why:
-            if cause_of(why.line) != OPTIONAL:
+            if not may_be_optional(why.line):
                 raise
         listed = self.program.value(asking(self.scope, bound(f"[?(\n{text}\n)]", frames)))
         if listed == ERROR:

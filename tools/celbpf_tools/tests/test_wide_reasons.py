@@ -104,6 +104,14 @@ REASONS = [
         "to be true: the index 1 of object.spec.containers has to be equal to 0, or the key 'image' of object.spec.containers[1] has "
         "to be other than 'image'",
     ]),
+    ("object.metadata.?labels.orValue({}).all(k, v, v == 'shop')", [
+        'object.metadata.?labels.orValue({}) is {"app":"shop","team":"x"}',
+        '  object.metadata.?labels is optional.of({"app":"shop","team":"x"})',
+        'item 1 of 2 decides: k is "team" and v is "x"',
+        "  v == 'shop' is false",
+        '    v is "x"',
+        "to be true: object.metadata.labels['team'] has to be equal to 'shop'",
+    ]),
     ("sets.contains(['a'], object.spec.args)", [
         'object.spec.args is ["x"]',
         """to be true: ['a'] has to have every item of ["x"] (object.spec.args)""",
