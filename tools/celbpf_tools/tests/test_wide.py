@@ -122,7 +122,7 @@ REFUSALS = [
 # what API servers refuse by a kind that gatekeeper does not know, and is the error there
 UNKNOWN_KINDS = [
     "[1, 2].all(x, x)", "[1, 2].exists(i, x, x)", "optional.of('a').optMap(e, e && true).hasValue()", "optional.of([1]).?a.hasValue()",
-    "{'a': 1}[?1].hasValue()",
+    "{'a': 1}[?1].hasValue()", "string([1])",
 ]
 
 

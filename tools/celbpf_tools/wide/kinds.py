@@ -65,7 +65,7 @@ class Kinds(Calls):
 
     With `knows_items`, as API servers do, an iteration name over a list literal has the kind of its items, and what an
     optional has is of the kind that this carries, for an iteration name, a field and an index. An optional index fits what it
-    is asked of. A gatekeeper knows none of these.
+    is asked of, and what `string` is asked of has a text. A gatekeeper knows none of these.
     """
 
     def __init__(self, variables: dict[str, Any], knows_items: bool = True):
