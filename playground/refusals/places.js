@@ -4,6 +4,7 @@ import { TABLES } from "../data/tables.js";
 import { asVariable, bound } from "../asking/policies.js";
 import { causeOf } from "../asking/values.js";
 import { namespaceOf, OVER_OPTIONAL, tryCut } from "../cel/splitter.js";
+import { refusalOf } from "./hidden.js";
 import { told } from "./operands.js";
 
 /** @typedef {import("../cel/splitter.js").Piece} Piece */
@@ -51,7 +52,7 @@ export class Refusals {
    * @param {string} text @param {Frame[]} frames */
   refusesText(text, frames) {
     const ways = frames.length ? [bound, boundToOptional] : [bound];
-    const isRefused = (/** @type {typeof bound} */ way) => causeOf(this.program.refusal(asVariable(this.part.scope, way(text, frames)))) === this.cause;
+    const isRefused = (/** @type {typeof bound} */ way) => causeOf(refusalOf(this.program, asVariable(this.part.scope, way(text, frames)))) === this.cause;
     return this.cause === "W4" ? ways.every(isRefused) : ways.some(isRefused);
   }
 
@@ -134,7 +135,7 @@ export class Places {
    * @returns {Generator<Found>} */
   *found() {
     for (let most = this.text.length; most > 0; most--) {
-      const refusal = this.program.refusal(asVariable(this.part.scope, this.text)), cause = causeOf(refusal);
+      const refusal = refusalOf(this.program, asVariable(this.part.scope, this.text)), cause = causeOf(refusal);
       if (!cause) return;
       const one = this.first(cause, refusal);
       yield one;
@@ -154,7 +155,7 @@ export class Places {
     if (!whole) return this.made(cause, 0, this.text.length, cause === TOO_DEEP ? "" : nameOf(refusal));
     const refusals = new Refusals(this.program, { scope: this.part.scope, text: this.text }, cause);
     const [path, frames] = refusals.path(whole, []), piece = path[path.length - 1];
-    const own = this.program.refusal(asVariable(this.part.scope, bound(this.text.slice(piece.begin, piece.end), frames)));
+    const own = refusalOf(this.program, asVariable(this.part.scope, bound(this.text.slice(piece.begin, piece.end), frames)));
     // the whole may be refused first for another name, of what is around the piece
     const name = nameOf(causeOf(own) === cause ? own : refusal), all = this.made(cause, piece.begin, piece.end, "");
     const operands = cause === "Y2" ? told(refusals, this.text, piece, frames) : "";

@@ -6,6 +6,7 @@ import { lineColumn } from "../texts/json.js";
 import { keyMark } from "../texts/yaml.js";
 import { TABLES } from "../data/tables.js";
 import { Keys, keyCause, LEAST, pathText } from "./keys.js";
+import { refusalOfPolicy } from "./hidden.js";
 import { meaning, meaningOf, NO_ANNOTATIONS } from "./meanings.js";
 import { Places } from "./places.js";
 import { meant, told } from "./words.js";
@@ -111,7 +112,7 @@ class Refusing {
     const seen = new Set();
     let policy = this.policy;
     while (this.found.length < MOST) {
-      const refusal = this.program.refusal(policy);
+      const refusal = refusalOfPolicy(this.program, policy);
       if (!refusal) break;
       const next = this.next(policy, refusal, seen);
       if (next === null) break;

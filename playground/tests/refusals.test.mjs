@@ -20,7 +20,8 @@ const EXPRESSIONS = [
   "object.items.all(1, true)", "object.items.all(celbpf_x, true)", "has(object)", "has(object.a, 1)", "1.5 < object.a", "1u + 2u == 3u",
   "b'abc' == object.a", "object.?a", "object.?a.orValue(1) == optional.of(1)", "object.a.orValue(1)", "optional.of(object.a)", "variables.x == 1",
   "variables.nope == 1", "authorizer.group('apps').resource('deployments').check('create').allowed()", "cel.bind(x, 1, x == 1)",
-  "math.greatest(1, 2) == 2", "object.a.transformMap(k, v, v)", "object.a.all(k, v, v == 1)", "(object.a + object.b).all(i, v, i == 1)", "(object.a + object.b).exists(v, v.all(i, x, i == x))", "object.map(k, v, v)", "type(object.a) == string",
+  "math.greatest(1, 2) == 2", "object.a.transformMap(k, v, v)", "object.a.all(k, v, v == 1)", "(object.a + object.b).all(i, v, i == 1)", "(object.a + object.b).exists(v, v.all(i, x, i == x))", "object.a.all(k, v, k != v) && object.?b", "object.l.map(x, object.a.all(k, v, k != v) && object.?b)",
+  "object.a.transformList(k, v, k == 1u + v, k) == object.?b", "object.?a.optMap(d, d.all(k, v, k != v))", "object.map(k, v, v)", "type(object.a) == string",
   "int(object.a) == 1", "string == 'a'", "sets == 1", "'abc", "\"abc", "'\\q' == object.a", "'a\\u12' == object.a",
   "99999999999999999999 == object.a", "object.a == 1 2", "object.a..b", "object.a.", ".object", "object.a ? 1 : 'x'", "object.a ? true", "!1",
   "-'a' == 1", "-object == 1", "object['a'][1 > 2]", "{1: 2}.a == 1", "{'a': 1, 'b'} == 1", "object.items.filter(x, x + 1)",
@@ -36,6 +37,8 @@ const EXPRESSIONS = [
   "“a” == object.a", "a^b", "$x", "@x", "#x", "object.a \\n == 1",
 ];
 const SPECS = [
+  "  variables:\n  - name: w\n    expression: object.a.transformList(k, v, k)\n  - name: f\n    expression: object.a + object.b\n  validations:\n"
+    + "  - expression: variables.w == object.?d\n  - expression: variables.w.all(i, x, i > 0)\n  - expression: variables.f.all(i, x, i > 0)\n    messageExpression: variables.w[0].trim()\n",
   "  validation: []\n", "  validations:\n  - expresion: 'true'\n", "  validations:\n  - expression: 'true'\n    reason: No\n", "  validations:\n  - expression: 'true'\n    mesage: x\n",
   "  failurePolicy: fail\n  validations:\n  - expression: 'true'\n", "  validations:\n  - expression: true\n", "  validations:\n  - expression: 'true'\n    message: \"a\\nb\"\n",
   "  validations: x\n", "  variables:\n  - name: 1a\n    expression: 'true'\n  validations:\n  - expression: 'true'\n", "  variables:\n  - expression: 'true'\n  validations:\n  - expression: 'true'\n",

@@ -14,6 +14,7 @@
     refused        where a policy is refused, and what its refusal means
     places         the smallest piece of an expression that is refused
     operands       the types of its operands
+    hidden         refusals behind one for a table of indices
     wide_places    all pieces that the gatekeeper refuses
     wide_words     what its refusals mean, and what to write instead
     keys           the key of a document that is refused

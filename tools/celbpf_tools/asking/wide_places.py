@@ -3,7 +3,7 @@
 from dataclasses import dataclass, field
 from typing import Any, Iterator, Optional
 
-from . import operands
+from . import hidden, operands
 from .places import Refusals, cause_of
 from .policies import Part, as_variable, bound
 from .splitter import NotCut, Piece
@@ -57,7 +57,7 @@ class WideRefusals(Refusals):
         """Whether a text is refused so, be it of a value or of an optional one."""
         ways = (bound, bound_to_optional) if frames else (bound,)
         made = (as_variable(self.part.scope, way(text, frames)) for way in ways)
-        told = (cause_of(self.program.refusal(policy)) == self.cause for policy in made)
+        told = (cause_of(hidden.refusal(self.program, policy)) == self.cause for policy in made)
         return all(told) if self.cause == "W4" else any(told)
 
     def parts(self, piece: Piece, frames: list[Any]) -> Iterator[Any]:
@@ -103,7 +103,7 @@ class Places:
         """The refused pieces, from the first one on; of a text that is not read its first fault alone."""
         most = len(self.text)
         for _ in range(most):
-            refusal = self.program.refusal(as_variable(self.part.scope, self.text))
+            refusal = hidden.refusal(self.program, as_variable(self.part.scope, self.text))
             cause = cause_of(refusal)
             if not cause:
                 return
@@ -127,7 +127,7 @@ class Places:
             return self.made(cause, 0, len(self.text), name_of(refusal))
         refusals = WideRefusals(self.program, Part("variable", 0, self.text, self.part.scope), cause)
         (*around, piece), frames = refusals.path(whole, [])
-        own = self.program.refusal(as_variable(self.part.scope, bound(self.text[piece.begin : piece.end], frames)))
+        own = hidden.refusal(self.program, as_variable(self.part.scope, bound(self.text[piece.begin : piece.end], frames)))
         # the whole may be refused first for another name, of what is around the piece
         name = name_of(own if cause_of(own) == cause else refusal)
         found = self.made(cause, *self.shown(piece, name), name)

@@ -122,7 +122,7 @@ REFUSALS = [
 # what API servers refuse by a kind that gatekeeper does not know, and is the error there
 UNKNOWN_KINDS = [
     "[1, 2].all(x, x)", "[1, 2].exists(i, x, x)", "optional.of('a').optMap(e, e && true).hasValue()", "optional.of([1]).?a.hasValue()",
-    "{'a': 1}[?1].hasValue()", "string([1])",
+    "{'a': 1}[?1].hasValue()", "string([1])", "1 + 'a'",
 ]
 
 
@@ -162,8 +162,9 @@ class Kinds(unittest.TestCase):
         for expression in UNKNOWN_KINDS:
             with self.subTest(expression):
                 self.assertRegex(refusal_of(expression), "^Y2 at ")
-                tree = taken(expression, Scope(knows_items=False))
+                tree = taken(expression, Scope(knows_plain=False))
                 self.assertIs(Meaning(ROOTS, {}).of(tree), ERROR)
+        self.assertIs(Meaning(ROOTS, {}).of(taken("sets.contains([], []) != null", Scope(knows_plain=False))), True)
 
 
 if __name__ == "__main__":

@@ -4,7 +4,7 @@ import json
 from collections.abc import Iterator
 from typing import Any, Optional
 
-from ..asking import policies
+from ..asking import hidden, policies
 from ..asking.gatekeeper import Gatekeeper
 from ..asking.refused import Refused, refused
 from ..asking.wide_functions import MACROS, meant
@@ -42,7 +42,7 @@ def wide_faults(gatekeeper: Gatekeeper, thing: Thing, marks: Optional[Marks]) ->
     """The refusals of a policy, in the order in which it is compiled. One of the whole document but K3 of a key ends them."""
     policy: Any = json.loads(policy_text(thing))
     seen = set[Path]()
-    while refusal := gatekeeper.refusal(policy):
+    while refusal := hidden.of_policy(gatekeeper, policy):
         part = policies.part_of(policy, refusal)
         if part is None:
             found = refused(gatekeeper, policy, refusal)

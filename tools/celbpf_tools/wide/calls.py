@@ -42,9 +42,6 @@ def is_maker(tree: Any, kind: str) -> bool:
 class Calls:
     """The kinds of calls, over those of their parts."""
 
-    # whether all kinds are known that API servers know
-    knows_items = True
-
     def of(self, tree: Any, names: dict[str, Any]) -> Any:
         raise NotImplementedError
 
@@ -86,8 +83,6 @@ class Calls:
             refuse("W5", getattr(tree, "named", tree.place), name)
         for argument, one, kinds in zip(arguments, given, wanted):
             if one == "Int" and "literal" in kinds and isinstance(argument, Literal):
-                continue
-            if name == "string" and one in PLAIN and not self.knows_items:
                 continue
             if one not in PLAIN and one not in kinds:
                 refuse("W4", argument.place)

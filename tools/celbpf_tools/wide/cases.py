@@ -41,7 +41,7 @@ class Case:
 class Due:
     """The refusal of a case, or a result for each review, with the clauses that the profile defines otherwise.
 
-    A case that is refused for a kind that a gatekeeper does not know has results too.
+    A case that is refused for the kind of a plain value has results too, since a gatekeeper may not know the kind.
     """
 
     refusal: str = ""
@@ -106,9 +106,9 @@ def result_of(tree: Any, variables: dict[str, Any], roots: dict[str, Any], claus
         return why
 
 
-def trees(case: Case, knows_items: bool) -> tuple[Any, ...]:
+def trees(case: Case, knows_plain: bool) -> tuple[Any, ...]:
     """The trees of the variables and of the expression; raises Refused."""
-    scope, variables = Scope(knows_items=knows_items), {}
+    scope, variables = Scope(knows_plain=knows_plain), {}
     for name, text in case.variables.items():
         # a policy's expressions are read without the blanks around them
         variables[name] = variable(name, text.strip(BLANKS), scope)

@@ -15,12 +15,12 @@ WHOLES = {"condition": ("Bool", "Dyn"), "message": ("String", "Dyn"), "annotatio
 class Scope:
     """The variables so far: their kinds, and whether their values are known from the documents.
 
-    `knows_items` is that of `Kinds`.
+    `knows_plain` is that of `Kinds`.
     """
 
     kinds: dict[str, Any] = field(default_factory=dict)
     known: dict[str, Any] = field(default_factory=dict)
-    knows_items: bool = True
+    knows_plain: bool = True
 
 
 def taken(text: str, scope: Scope, part: str = "value") -> Any:
@@ -29,7 +29,7 @@ def taken(text: str, scope: Scope, part: str = "value") -> Any:
     A condition of another plain kind is K7, a message or annotation K9.
     """
     tree = grammar.read(text)
-    given = kinds.kind_of(tree, scope.kinds, scope.knows_items)
+    given = kinds.kind_of(tree, scope.kinds, scope.knows_plain)
     if given not in PLAIN:
         refuse("W4", tree.place)
     if given not in WHOLES.get(part, PLAIN):
@@ -41,7 +41,7 @@ def taken(text: str, scope: Scope, part: str = "value") -> Any:
 def variable(name: str, expression: str, scope: Scope) -> Any:
     """The tree of a variable, which the scope has from then on; it may be an optional or typed."""
     tree = grammar.read(expression)
-    given = kinds.kind_of(tree, scope.kinds, scope.knows_items)
+    given = kinds.kind_of(tree, scope.kinds, scope.knows_plain)
     if given == "Type":
         refuse("W4", tree.place)
     scope.known[name] = reach.check(tree, scope.known)

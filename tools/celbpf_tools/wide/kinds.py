@@ -60,21 +60,27 @@ def sum_of_times(sign: str, given: list[Any]) -> Any:
     return None
 
 
+def unknown(kind: Any) -> Any:
+    """A kind without what it says of plain values."""
+    if isinstance(kind, Opt):
+        return OPTIONAL_DYN if kind.inner in PLAIN else kind
+    return "Dyn" if kind in PLAIN else kind
+
+
 class Kinds(Calls):
     """Kinds over variables, a dict from their names to kinds.
 
-    With `knows_items`, as API servers do, an iteration name over a list literal has the kind of its items, and what an
-    optional has is of the kind that this carries, for an iteration name, a field and an index. An optional index fits what it
-    is asked of, and what `string` is asked of has a text. A gatekeeper knows none of these.
+    Without `knows_plain` all plain values are of unknown kind. A gatekeeper knows fewer kinds than API servers do.
     """
 
-    def __init__(self, variables: dict[str, Any], knows_items: bool = True):
+    def __init__(self, variables: dict[str, Any], knows_plain: bool = True):
         self.variables = variables
-        self.knows_items = knows_items
+        self.knows_plain = knows_plain
 
     def of(self, tree: Any, names: dict[str, Any]) -> Any:
         """The kind of a tree under iteration names, a dict to their kinds."""
-        return OF_NODES[type(tree)](self, tree, names)
+        found = OF_NODES[type(tree)](self, tree, names)
+        return found if self.knows_plain else unknown(found)
 
     def plain(self, tree: Any, names: dict[str, Any]) -> str:
         """The kind of a tree that has to be plain."""
@@ -100,12 +106,8 @@ class Kinds(Calls):
         """The plain kind that a tree has or carries, and whether it is an optional."""
         given = self.of(tree, names)
         if isinstance(given, Opt):
-            return self.carried(self.has_to_be_plain(tree, given.inner)), True
+            return self.has_to_be_plain(tree, given.inner), True
         return self.has_to_be_plain(tree, given), False
-
-    def carried(self, inner: str) -> str:
-        """The kind of what an optional has, as far as it is known."""
-        return "Dyn" if inner in PLAIN and not self.knows_items else inner
 
     def field(self, tree: Field, names: dict[str, Any]) -> Any:
         if is_variables(tree.operand, names):
@@ -120,8 +122,7 @@ class Kinds(Calls):
     def index(self, tree: Index, names: dict[str, Any]) -> Any:
         given, carried = self.inside(tree.operand, names)
         key = self.plain(tree.key, names)
-        if self.knows_items or not tree.optional:
-            by_the_profile(tree.place, types.of_index, "Dyn" if carried else given, key)
+        by_the_profile(tree.place, types.of_index, "Dyn" if carried else given, key)
         return OPTIONAL_DYN if carried or tree.optional else "Dyn"
 
     def presence(self, tree: Has, names: dict[str, Any]) -> str:
@@ -202,7 +203,7 @@ class Kinds(Calls):
             return self.over_optional(tree, names)
         given = self.plain(tree.range, names)
         inner = {**names, **dict.fromkeys(tree.names, "Dyn")}
-        if isinstance(tree.range, ListLiteral) and self.knows_items:
+        if isinstance(tree.range, ListLiteral):
             kinds = set(self.items(tree.range, names))
             # the last name is the item's
             inner[tree.names[-1]] = kinds.pop() if len(kinds) == 1 else "Dyn"
@@ -217,7 +218,7 @@ class Kinds(Calls):
         given, transform = self.of(tree.range, names), tree.transform
         if not isinstance(given, Opt):
             refuse("Y2" if given in PLAIN else "W4", tree.range.place)
-        result = self.of(transform, {**names, tree.names[0]: self.carried(given.inner)})
+        result = self.of(transform, {**names, tree.names[0]: given.inner})
         if tree.word == "optFlatMap":
             return result if isinstance(result, Opt) else refuse("Y2", transform.place)
         return Opt(result) if result in PLAIN + TYPED else refuse("W4", transform.place)
@@ -230,6 +231,6 @@ OF_NODES: dict[type, Callable[..., Any]] = {
 }
 
 
-def kind_of(tree: Any, variables: dict[str, Any], knows_items: bool = True) -> Any:
+def kind_of(tree: Any, variables: dict[str, Any], knows_plain: bool = True) -> Any:
     """The kind of a tree, or the first of its refusals."""
-    return Kinds(variables, knows_items).of(tree, {})
+    return Kinds(variables, knows_plain).of(tree, {})
