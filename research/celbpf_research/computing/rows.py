@@ -65,17 +65,19 @@ class Rows:
             lines = [line for place, (_, term) in enumerate(terms) for line in (f"row_{place} : ℕ", f"row_{place} = {term}")]
             self.program.names.read[at] = Source(at, None, "\n".join([*uses, *lines]), self.program.names.strength)
             for place, (name, term) in enumerate(terms):
-                labels = self.labels(*imported[term]) if term in imported else None
-                if labels:
-                    yield from (Row(crate.name, *imported[term], spot, f"{term}.{label}") for spot, label in enumerate(labels))
-                else:
-                    yield Row(crate.name, at, f"row_{place}", None, name)
+                rows = list(self.fields(crate.name, *imported[term])) if term in imported else []
+                yield from rows or [Row(crate.name, at, f"row_{place}", None, name)]
 
-    def labels(self, module: str, name: str) -> list[str]:
-        """The names of the fields of a record of rows."""
+    def fields(self, crate: str, module: str, name: str) -> Iterator[Row]:
+        """The fields of a record of rows, and for a field that is such a record, the fields of that."""
         source = self.program.names.source(module)
         found = source.definitions.get(name) if source else None
-        return [label for label, _ in found.fields] if found and found.kind == "record" and not found.parameters else []
+        if not source or not found or found.kind != "record" or found.parameters:
+            return
+        for place, (label, tokens) in enumerate(found.fields):
+            meant = self.program.names.meaning(source, tokens[0].value) if [it.kind for it in tokens] == ["name"] else None
+            inner = list(self.fields(crate, meant.module, meant.name)) if meant else []
+            yield from inner or [Row(crate, module, name, place, f"{name}.{label}")]
 
     def answer(self, row: Row, seconds: float) -> Any:
         """Whether a row is true: yes, no, or nothing."""

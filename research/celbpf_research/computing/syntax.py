@@ -2,8 +2,9 @@
 
     ("number", n) ("text", s) ("unit",) ("name", word) ("path", words) ("tuple", parts) ("apply", function, arguments)
     ("operator", sign, left, right) ("if", test, one, other) ("let", name, value, rest) ("function", names, result)
+    ("elim", value, cases): cases of constructors without arguments
     ("record", base or None, fields) ("field", value, name)
-    ("implies", left, right) ("both", left, right) ("all",) ("some",): statements; the last two are not looked into
+    ("implies", left, right) ("both", left, right) ("all", names, result) ("some",): statements; the last is not looked into
 """
 
 from typing import Any, Optional
@@ -19,7 +20,7 @@ STRENGTHS = {
     "%": (70, "left"), "^": (75, "right"),
 }  # fmt: skip
 ENDS = {")", "}", ";", ",", "then", "else", "in", "=", ":", "", "|", "]"}
-OPENERS = ("λ", "let", "if")
+OPENERS = ("λ", "let", "if", "elim")
 ELSE = 5
 END = Token("end", "")
 
@@ -68,12 +69,12 @@ class Reader:
         return left
 
     def operand(self) -> tuple[Any, ...]:
-        if self.skips_binder():
+        if names := self.binder():
             sign = self.peek().value
             if sign in ("→", "×"):
                 self.next()
-            self.expression(3 if sign == "×" else 0)
-            return ("some",) if sign == "×" else ("all",)
+            result = self.expression(3 if sign == "×" else 0)
+            return ("some",) if sign == "×" else ("all", names, result)
         if self.peek().kind == "name" and self.peek().value in OPENERS:
             return self.opened()
         function, arguments = self.atom(), []
@@ -95,20 +96,21 @@ class Reader:
             return token.value not in ENDS and token.value not in self.strengths and token.value != "if"
         return token.kind in ("text", "number", "path") or token == Token("mark", "(")
 
-    def skips_binder(self) -> bool:
-        """Whether names with their type in brackets come next; then they are passed over."""
+    def binder(self) -> list[str]:
+        """The names that come next with their type in brackets, and are passed over; none if there are none."""
         if not (self.is_mark("(") or self.is_mark("{")):
-            return False
+            return []
         ahead = 1
         while self.peek(ahead).kind == "name" and self.peek(ahead).value != ":":
             ahead += 1
         if ahead == 1 or self.peek(ahead) != Token("name", ":"):
-            return False
+            return []
+        names = [self.peek(at).value for at in range(1, ahead)]
         close = ")" if self.is_mark("(") else "}"
         self.at += ahead + 1
         self.expression()
         self.want(close)
-        return True
+        return names
 
     def skip_braces(self) -> None:
         """Passes over an implicit argument."""
@@ -122,12 +124,14 @@ class Reader:
                 return
 
     def opened(self) -> tuple[Any, ...]:
-        """A function, a `let` or an `if`."""
+        """A function, a `let`, an `elim` or an `if`."""
         word = self.next().value
         if word == "λ":
             return self.function()
         if word == "let":
             return self.let()
+        if word == "elim":
+            return self.elim()
         test = self.expression()
         self.want("then")
         one = self.expression()
@@ -159,6 +163,19 @@ class Reader:
         value = self.expression()
         self.want("in")
         return ("let", name, value, self.expression())
+
+    def elim(self) -> tuple[Any, ...]:
+        value, cases = self.atom(), []
+        self.want("[")
+        while True:
+            pattern = self.atom()
+            self.want("↦")
+            cases.append((pattern, self.expression()))
+            end = self.next().value
+            if end == "]":
+                return ("elim", value, cases)
+            if end != "|":
+                raise NotRead(f"{end} after a case")
 
     def atom(self) -> tuple[Any, ...]:
         token = self.next()

@@ -120,8 +120,11 @@ class Translation:
     def of_unit(self, bound: dict[str, Any]) -> str:
         return "Made('tt')"
 
-    def of_all(self, bound: dict[str, Any]) -> str:
-        return "Opaque('for all')"
+    def of_all(self, bound: dict[str, Any], names: list[str], result: tuple[Any, ...]) -> str:
+        """What holds whatever these values are: it is computed as far as it needs none of them."""
+        words = [self.fresh() for _ in names]
+        inner = {**bound, **dict(zip(names, words))}
+        return f"(lambda {', '.join(words)}: {self.now(result, inner)})({', '.join('free()' for _ in words)})"
 
     def of_some(self, bound: dict[str, Any]) -> str:
         return "Opaque('there is')"
@@ -152,6 +155,15 @@ class Translation:
 
     def of_if(self, bound: dict[str, Any], test: tuple[Any, ...], one: tuple[Any, ...], other: tuple[Any, ...]) -> str:
         return f"({self.now(one, bound)} if {self.now(test, bound)} else {self.now(other, bound)})"
+
+    def of_elim(self, bound: dict[str, Any], value: tuple[Any, ...], cases: list[Any]) -> str:
+        word, text = self.fresh(), "stuck()"
+        for pattern, result in reversed(cases):
+            constructor = self.constructor_of(pattern)
+            if constructor is None:
+                raise NotRead("a case with arguments")
+            text = f"({self.now(result, bound)} if {word}.name == {constructor!r} else {text})"
+        return f"(lambda {word}: {text})({self.now(value, bound)})"
 
     def of_let(self, bound: dict[str, Any], name: str, value: tuple[Any, ...], rest: tuple[Any, ...]) -> str:
         word = self.fresh()

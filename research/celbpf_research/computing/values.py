@@ -68,8 +68,21 @@ class Opaque:
 EMPTY = Made("[]")
 
 
+def stuck() -> None:
+    raise Stuck("a value of no case")
+
+
 def computing() -> None:
     raise Stuck("a value that needs itself")
+
+
+def unknown() -> None:
+    raise Unknown("a value that may be any")
+
+
+def free() -> Later:
+    """A value that may be any: what needs it is not computed."""
+    return Later(unknown)
 
 
 def force(value: Any) -> Any:

@@ -42,6 +42,12 @@ abbrev pub count : List ℕ → ℕ
 count [] = 0
 count (x ∷ xs) = 1 + count xs
 
+abbrev pub is_flat : Shape → Bool
+is_flat s = elim s [ round ↦ false | flat ↦ true ]
+
+abbrev pub first : {A : Type 0} → A → A → A
+first a b = a
+
 abbrev pub half : ℕ → ℕ
 half zero = 0
 half (suc zero) = 0
@@ -76,7 +82,13 @@ pub record RowsHold : Type 0 where
   pub half_of_seven : half 7 ≡ 3
   pub of_three : count (1 ∷ 2 ∷ 3 ∷ []) ≡ 3
   pub unequal : kept 3 ≡ 4 → 1 ≡ 2
+  pub flat_alone : is_flat flat ≡ true
+  pub whatever : (n m : ℕ) → first 3 (n + m) ≡ 3
   pub for_all : (n : ℕ) → half n ≡ half n
+  pub more : MoreRowsHold
+
+pub record MoreRowsHold : Type 0 where
+  pub of_none : count [] ≡ 0
 """
 LAWS = """ghost use Rattle.a.specs.Shapes.{RowsHold, size, flat};
 ghost use Rattle.std.specs.Prelude.{◌≡◌};
@@ -103,7 +115,8 @@ class Reading(unittest.TestCase):
         self.assertEqual(read("a + b * c"), ("operator", "+", ("name", "a"), ("operator", "*", ("name", "b"), ("name", "c"))))
         self.assertEqual(read("f x {A} λ y. y"), ("apply", ("name", "f"), [("name", "x"), ("function", ["y"], ("name", "y"))]))
         self.assertEqual(read("(a, b)"), ("tuple", [("name", "a"), ("name", "b")]))
-        self.assertEqual(read("(x : A) → B"), ("all",))
+        self.assertEqual(read("(x y : A) → B"), ("all", ["x", "y"], ("name", "B")))
+        self.assertEqual(read("elim a [ B ↦ c | D ↦ e ]"), ("elim", ("name", "a"), [(("name", "B"), ("name", "c")), (("name", "D"), ("name", "e"))]))
         self.assertEqual(read("a → b"), ("implies", ("name", "a"), ("name", "b")))
 
     def test_items(self) -> None:
@@ -125,7 +138,7 @@ class Computing(unittest.TestCase):
         found = program.value("Rattle.a.specs.Shapes", "doubled")
         self.assertEqual([force(it) for it in elements(found)], [2, 4])
         rows = program.value("Rattle.a.specs.Shapes", "RowsHold")
-        self.assertEqual([is_true(it) for it in rows.parts], [True] * 9 + [None])
+        self.assertEqual([is_true(it) for it in rows.parts], [True] * 11 + [None, True])
         self.assertRaises(Unknown, Program.unread("no reason"))
 
     def test_rows(self) -> None:
@@ -134,7 +147,7 @@ class Computing(unittest.TestCase):
         rows = Rows(self.crates)
         for row in rows.all:
             rows.compute(row, 5)
-        self.assertEqual([row.answer for row in rows.all], [True] * 9 + [None, True])
+        self.assertEqual([row.answer for row in rows.all], [True] * 11 + [None, True, True])
         size = ("Rattle.a.specs.Shapes", "size")
         changed, count = rows.against(size, "a", SPECS.replace("size flat = 0", "size flat = 1"), 5)
         self.assertEqual((changed and changed.told, count), ("a RowsHold.no_size", 3))
