@@ -1,5 +1,7 @@
 """What the words of a file stand for."""
 
+import functools
+import re
 from pathlib import Path
 from typing import Any, NamedTuple, Optional
 
@@ -12,6 +14,8 @@ from .sources import Definition, Source
 # the library `std` passes on what these have
 STANDARD = ("std", "core", "std_alloc", "std_collections")
 OURS = ("Rattle.core.", "Rattle.std")
+# a module of another crate that a crate passes on
+PASSED = re.compile(r"^pub use (Rattle\.[\w.]+)$", re.M)
 
 
 class Meaning(NamedTuple):
@@ -30,6 +34,13 @@ class Names:
         self.changed: dict[str, str] = {}
         self.read: dict[str, Optional[Source]] = {}
 
+    @functools.cache
+    def passed(self, crate: str) -> dict[str, str]:
+        """The modules that a crate passes on from crates below, by the names that they have here."""
+        lib = self.crates / crate / "specs" / "Lib.antt"
+        found = PASSED.findall(lib.read_text(encoding="utf-8")) if lib.exists() else []
+        return {f"Rattle.{crate}.specs.{module.rpartition('.')[2]}": module for module in found}
+
     def path(self, module: str) -> Optional[Path]:
         """The file of a module, of this repository or of the toolchain's crates."""
         parts = module.split(".")
@@ -39,6 +50,12 @@ class Names:
         crates = of_kit if parts[1] == "std" else [self.crates / parts[1], *of_kit]
         files = [Path(f"{crate.joinpath('specs', *parts[3:])}.antt") for crate in crates]
         return next((file for file in files if file.exists()), None)
+
+    def owner(self, module: str) -> str:
+        """The module itself, or that of a crate below which is passed on under this name."""
+        parts = module.split(".")
+        is_own = parts[0] == "Rattle" and len(parts) == 4 and parts[2] == "specs"
+        return self.passed(parts[1]).get(module, module) if is_own else module
 
     def source(self, module: str) -> Optional[Source]:
         """The file of a module, read once."""
@@ -61,6 +78,7 @@ class Names:
 
     def below(self, module: str, name: str, seen: frozenset[Any] = frozenset()) -> Meaning:
         """What a name of a module stands for."""
+        module = self.owner(module)
         source = self.source(module)
         if source:
             return self.meaning(source, name, seen)

@@ -80,8 +80,9 @@ def tokens(text: str) -> list[Token]:
         kind, at = match.lastgroup, match.end()
         if kind == "dot":
             is_field = bool(found) and found[-1].value == ")" and match.start("dot") == match.start()
-            after, at = fields(text, match.start("dot")) if is_field else ([], at)
+            after, end = fields(text, match.start("dot")) if is_field else ([], at)
             found += [Token("field", name) for name in after] or [Token("dot", ".")]
+            at = end if after else at
         elif kind in ("name", "escaped"):
             after, at = fields(text, at)
             found.append(Token("path", (match[kind], *after)) if after else Token("name", match[kind]))

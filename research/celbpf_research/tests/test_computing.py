@@ -105,6 +105,7 @@ class Reading(unittest.TestCase):
     def test_tokens(self) -> None:
         self.assertEqual(tokens('f (a.b).c 0x1f "x\\"y" λ x. x')[0], Token("name", "f"))
         self.assertEqual([it.value for it in tokens("(a.b).c.d 0x1f 1_0")], ["(", ("a", "b"), ")", "c", "d", 31, 10])
+        self.assertEqual([it.value for it in tokens("λ (x : A). f x.b")], ["λ", "(", "x", ":", "A", ")", ".", "f", ("x", "b")])
         self.assertEqual(without_comment('f "--" -- a comment'), 'f "--"')
         self.assertEqual(meant("\\u{e9}\\x41\\n"), "éA\n")
 
@@ -132,6 +133,8 @@ class Computing(unittest.TestCase):
         for part, name, text in (("specs", "Shapes.antt", SPECS), ("src", "laws.rt", LAWS)):
             (self.crates / "a" / part).mkdir(parents=True)
             (self.crates / "a" / part / name).write_text(text, encoding="utf-8")
+        (self.crates / "b" / "specs").mkdir(parents=True)
+        (self.crates / "b" / "specs" / "Lib.antt").write_text("pub use Rattle.a.specs.Shapes\n", encoding="utf-8")
 
     def test_values(self) -> None:
         program = Program(Names(self.crates))
@@ -140,6 +143,8 @@ class Computing(unittest.TestCase):
         rows = program.value("Rattle.a.specs.Shapes", "RowsHold")
         self.assertEqual([is_true(it) for it in rows.parts], [True] * 11 + [None, True])
         self.assertRaises(Unknown, Program.unread("no reason"))
+        passed = program.value("Rattle.b.specs.Shapes", "doubled")
+        self.assertEqual([force(it) for it in elements(passed)], [2, 4])
 
     def test_rows(self) -> None:
         # the rows of all crates recurse deeply, which other tests must not
