@@ -23,7 +23,7 @@ class Program:
         self.meanings: dict[str, Meaning] = {}
         self.constants: dict[str, values.Later] = {}
         self.ran: set[str] = set()
-        used = ("Later", "Made", "Record", "Function", "Statement", "Opaque", "EMPTY", "Stuck", "stuck", "force", "free", "applied", "field_of", "updated")
+        used = "Later Made Record Function Statement Opaque EMPTY Stuck stuck force free applied field_of updated".split()
         self.space: dict[str, Any] = {name: getattr(values, name) for name in used}
         self.space |= {name: getattr(natives, name) for name in ("minus", "divided", "onto", "rest", "power")}
         self.space |= {"NATIVES": NATIVES, "ran": self.ran, "constant": self.constant}

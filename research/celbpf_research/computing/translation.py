@@ -158,11 +158,11 @@ class Translation:
 
     def of_elim(self, bound: dict[str, Any], value: tuple[Any, ...], cases: list[Any]) -> str:
         word, text = self.fresh(), "stuck()"
-        for pattern, result in reversed(cases):
+        for pattern, then in reversed(cases):
             constructor = self.constructor_of(pattern)
             if constructor is None:
                 raise NotRead("a case with arguments")
-            text = f"({self.now(result, bound)} if {word}.name == {constructor!r} else {text})"
+            text = f"({self.now(then, bound)} if {word}.name == {constructor!r} else {text})"
         return f"(lambda {word}: {text})({self.now(value, bound)})"
 
     def of_let(self, bound: dict[str, Any], name: str, value: tuple[Any, ...], rest: tuple[Any, ...]) -> str:

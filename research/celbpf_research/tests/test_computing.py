@@ -117,7 +117,8 @@ class Reading(unittest.TestCase):
         self.assertEqual(read("f x {A} λ y. y"), ("apply", ("name", "f"), [("name", "x"), ("function", ["y"], ("name", "y"))]))
         self.assertEqual(read("(a, b)"), ("tuple", [("name", "a"), ("name", "b")]))
         self.assertEqual(read("(x y : A) → B"), ("all", ["x", "y"], ("name", "B")))
-        self.assertEqual(read("elim a [ B ↦ c | D ↦ e ]"), ("elim", ("name", "a"), [(("name", "B"), ("name", "c")), (("name", "D"), ("name", "e"))]))
+        cases = [(("name", "B"), ("name", "c")), (("name", "D"), ("name", "e"))]
+        self.assertEqual(read("elim a [ B ↦ c | D ↦ e ]"), ("elim", ("name", "a"), cases))
         self.assertEqual(read("a → b"), ("implies", ("name", "a"), ("name", "b")))
 
     def test_items(self) -> None:
