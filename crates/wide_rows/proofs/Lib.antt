@@ -1,0 +1,3 @@
+-- The proofs of `wide_rows`.
+
+pub mod OnLiterals
