@@ -1,0 +1,2 @@
+-- Proofs of text_numbers: the list of their modules.
+pub mod Decimals

@@ -1,0 +1,2 @@
+-- Definitions of text_numbers: the list of their modules.
+pub mod Numbers
