@@ -1,0 +1,8 @@
+//! Quantities as exact numbers.
+
+/// An exact quantity. Equal numbers are equal quantities, whatever texts they are from.
+#[derive(Clone, Copy, Debug, PartialEq, Eq)]
+pub struct Quantity {
+    /// The number in billionths.
+    pub billionths: i128,
+}
