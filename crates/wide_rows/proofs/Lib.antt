@@ -1,3 +1,4 @@
 -- The proofs of `wide_rows`.
 
 pub mod OnLiterals
+pub mod Memory

@@ -3,7 +3,7 @@ use Rattle.std.specs.Prelude.{◌≡◌, true, false, pos, negsuc, [], Some, cod
 use Rattle.cel_tokens.specs.declared.mark.Mark.TheVariants as marks
 use Rattle.wide_tokens.specs.Gap.{between}
 use Rattle.wide_tokens.specs.Lexed.{front, sign_may_follow, space, word}
-use Rattle.wide_tokens.specs.Lexis.{lexeme}
+use Rattle.wide_tokens.specs.Lexis.{WideTakesMemory, lexeme}
 use Rattle.wide_tokens.specs.Numbers.{number_at}
 use Rattle.wide_tokens.specs.Quoted.{is_quoted_name}
 use Rattle.wide_tokens.specs.Token.{name, quoted, int, uint, text, bytes, double, mark, token_view, word_of}
@@ -64,3 +64,11 @@ pub record WordRowsStand : Type 0 where
   pub of_mark : word_of (codes "<=") kind.Mark ≡ mark marks.LessEqual
   pub second_token : token_view (codes "a bc d") (record { place = 2; end = 4; kind = kind.Name })
       ≡ record { place = 2; end = 4; word = name (codes "bc") }
+
+-- where an allocation may fail: not before a word that is no text is refused
+pub record MemoryRowsStand : Type 0 where
+  pub at_a_word : WideTakesMemory true (codes "a")
+  pub at_a_text : WideTakesMemory true (codes "'a")
+  pub behind_a_blank : WideTakesMemory true (codes " a")
+  pub not_at_a_wrong_byte : WideTakesMemory true (codes "#") → ⊥
+  pub not_behind_a_blank : WideTakesMemory true (codes " #") → ⊥

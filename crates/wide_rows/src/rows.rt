@@ -9,7 +9,7 @@ ghost use Rattle.wide_rows.specs.PolicyRows.{WideRefusalRowsStand};
 ghost use Rattle.wide_rows.specs.ReaderRows.{FormRowsStand, MacroRowsStand, WideErrorRowsStand, WideFaultRowsStand};
 ghost use Rattle.wide_rows.specs.ReaderRows.{WideSequenceRowsStand, WideWordRowsStand};
 ghost use Rattle.wide_rows.specs.TableRows.{WrappingRowsStand};
-ghost use Rattle.wide_rows.specs.TokenRows.{SignRowsStand, WideTokenRowsStand, WordRowsStand};
+ghost use Rattle.wide_rows.specs.TokenRows.{MemoryRowsStand, SignRowsStand, WideTokenRowsStand, WordRowsStand};
 
 /// Gaps, numbers, texts and names at the front of a text, and signs after a token.
 #[tactic(auto, unfolding(crate::proofs::OnLiterals::tokens_on_literals))]
@@ -17,6 +17,11 @@ pub fn token_rows_stand()
     ensures fronts { WideTokenRowsStand }
     ensures signs { SignRowsStand }
     ensures words { WordRowsStand }
+{}
+
+/// Where an allocation may fail.
+pub fn memory_rows_stand()
+    ensures { MemoryRowsStand }
 {}
 
 /// Words, and sequences of expressions.
