@@ -3,5 +3,7 @@ pub mod TokenRows
 pub mod ReaderRows
 pub mod KindRows
 pub mod MeaningRows
+pub mod MacroMeaningRows
 pub mod PolicyRows
+pub mod DecisionRows
 pub mod TableRows

@@ -1,10 +1,12 @@
 //! Rows by the crate whose definitions they pin; each function is empty, and its contract is the rows.
+ghost use Rattle.wide_rows.specs.DecisionRows.{WideDecisionRowsStand};
+ghost use Rattle.wide_rows.specs.MacroMeaningRows.{MacroMeaningRowsStand};
 ghost use Rattle.wide_rows.specs.KindRows.{FittingRowsStand, KindRowsStand};
-ghost use Rattle.wide_rows.specs.MeaningRows.{AccessRowsStand, FunctionRowsStand, MacroMeaningRowsStand, NameRowsStand};
+ghost use Rattle.wide_rows.specs.MeaningRows.{AccessRowsStand, FunctionRowsStand, NameRowsStand};
 ghost use Rattle.wide_rows.specs.MeaningRows.{OperatorRowsStand, OptionalValueRowsStand};
 ghost use Rattle.wide_rows.specs.PolicyRows.{WideNamedRowsStand, WideNullRowsStand, WideNullTextRowsStand};
 ghost use Rattle.wide_rows.specs.PolicyRows.{WideValidationRowsStand, WideVersionRowsStand};
-ghost use Rattle.wide_rows.specs.PolicyRows.{RefusedPartRowsStand, TabledRowsStand, TakenRowsStand, WideDecisionRowsStand, WidePartRowsStand};
+ghost use Rattle.wide_rows.specs.PolicyRows.{RefusedPartRowsStand, TabledRowsStand, TakenRowsStand, WidePartRowsStand};
 ghost use Rattle.wide_rows.specs.PolicyRows.{WideRefusalRowsStand};
 ghost use Rattle.wide_rows.specs.ReaderRows.{FormRowsStand, MacroRowsStand, WideErrorRowsStand, WideFaultRowsStand};
 ghost use Rattle.wide_rows.specs.ReaderRows.{WideSequenceRowsStand, WideWordRowsStand};
