@@ -103,7 +103,7 @@ class Compared:
     def line(self) -> str:
         return (
             f"{self.expressions} expressions: {self.values} values, {self.errors} errors; "
-            f"{self.taken} of unknown kinds that are known to be wrong, {self.refused} refused, {self.not_yet} not translated yet, "
+            f"{self.taken} that API servers refuse, {self.refused} refused, {self.not_yet} not translated yet, "
             f"{self.too_large} too large, {self.stopped} reviews not decided"
         )
 

@@ -65,7 +65,7 @@ class WideExpressions(ListForms, TypedForms):
         if key == value:
             value = "w"
         self.names += [(key, of_key), (value, of_value)]
-        parts = [self.part(kind, room, TERNARY) for kind in kinds]
+        parts = [self.with_key((key, of_key), kind, self.part(kind, room, TERNARY)) for kind in kinds]
         del self.names[-2:]
         return f"{target}.{word}({key}, {value}, {', '.join(parts)})"
 
@@ -145,13 +145,13 @@ ANY: list[Any] = [E.or_value, E.or_value, E.or_value, E.value, E.hidden_root, E.
 LIST_FORMS: dict[str, list[Any]] = {
     "bool": [
         E.has_value, E.has_value, E.equal_optionals, E.equal_optionals, E.presence_in_optional,
-        E.quantifier_of_pairs, E.quantifier_of_pairs, E.quantifier, E.in_empty, E.below_uint, E.list_tested,
-        E.sorted_list, E.presence_quoted, E.logic, E.presence,
+        *[E.quantifier_of_pairs] * 5, E.quantifier, E.in_empty, E.below_uint, E.list_tested, E.sorted_list, E.presence_quoted,
+        E.logic, E.presence,
     ],
     "int": [E.place_in_list, E.doubled, E.or_value, E.or_value, E.end_of_list, E.sum],
     "text": [E.text_of_any, E.long_text, E.or_value, E.or_value, E.end_of_list],
     "list": [
-        E.optional_items, E.optional_items, E.other_list, E.transformed, E.transformed, E.filtered, E.mapped, E.or_value,
+        E.optional_items, E.optional_items, E.other_list, *[E.transformed] * 4, E.filtered, E.mapped, E.or_value,
     ],
     "map": [E.optional_entries, E.optional_entries, E.or_value],
 }

@@ -59,6 +59,18 @@ class ListForms(OptionalForms):
             f"{target}.transformList(a, b, b)", f"{target}.{self.numbers.pick(['reverse()', 'distinct()', 'slice(0, 2)'])}",
         ]
 
+    def with_key(self, key: tuple[str, str], kind: str, made: str) -> str:
+        """A part of a macro that mostly uses the first of its two names."""
+        numbers, (name, of_key) = self.numbers, key
+        if numbers.one_in(3):
+            return made
+        test = f"{name} {numbers.pick(['==', '!=', '<', '>='])} {self.literal(of_key)}"
+        if kind == "bool":
+            return f"{test} {numbers.pick(['&&', '||'])} ({made})"
+        if kind == of_key:
+            return f"{name} + ({made})"
+        return f"[{name}] + ({made})" if kind == "list" else f"{test} ? ({made}) : ({made})"
+
     def place(self, room: int) -> str:
         """An index, or a key: mostly one that is computed."""
         numbers, known = self.numbers, [name for name, given in self.names if given in ("int", "text")]
