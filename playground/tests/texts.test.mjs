@@ -23,7 +23,7 @@ for text in json.load(sys.stdin):
 print(f"[{', '.join(found)}]")`;
 
 // what the tools read and the page refuses: anchors, aliases, tags, directives, other keys, and what JSON does not have
-const STRICTER = /names \((anchors|aliases)\)|as a tag|keys after|`<<` is not read|JSON has no|needs braces|lines that begin with|is not closed|not on the line of its/;
+const STRICTER = /names \((anchors|aliases)\)|as a tag|keys after|`<<` is not read|JSON has no|needs braces|lines that begin with|is not closed|not on the line of its|needs a blank|in brackets begins with/;
 
 /** What the reader of YAML finds, as JSON, or why it refuses the text. */
 function found(text) {

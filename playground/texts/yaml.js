@@ -202,6 +202,7 @@ export class Reader {
   unexpected() {
     const before = this.text.slice(0, this.at).trimEnd().slice(-1);
     if ("]}".includes(this.peek()) && !this.isEnd) return `\`${this.peek()}\` closes no bracket`;
+    if (/[\]}]/.test(before) && this.peek() === "#") return "a comment after a bracket needs a blank before its `#`";
     if (/["']/.test(before)) return "text follows the closing quote; in single quotes write `''` for `'`, in double quotes `\\\"` for `\"`";
     return "this line is indented neither as the lines before it nor as a part of them";
   }
@@ -212,6 +213,7 @@ export class Reader {
     this.mark(this.at);
     do {
       if (this.isItem()) this.refuse("an item of a list is where a key has to be");
+      if (!this.isKey() && "|>".includes(this.peek())) this.refuse("what begins with `|` or `>` is not on the line of its key");
       if (!this.isKey()) this.refuse("this line is neither a key, which ends with `:`, nor indented as part of a text");
       this.entry(found, seen, () => this.entryValue(indent));
     } while (this.goesOn(indent));
