@@ -18,9 +18,8 @@ export const keyMark = (path) => `key ${JSON.stringify(path)}`;
 
 // the most lists and maps that are inside one another
 const DEEPEST = 300;
-// a colon after blanks, at the end of a key
-const COLON = / *:(?=[ \n]|$)/y;
-const MARKER = /^(?:---|\.\.\.)(?=[ \n]|$)/;
+// a colon after blanks, at the end of a key, and what begins or ends a document
+const COLON = / *:(?=[ \n]|$)/y, MARKER = /^(?:---|\.\.\.)(?=[ \n]|$)/;
 
 /** A text that is read. Places are those of the text. */
 export class Reader {
