@@ -1,5 +1,5 @@
 -- Lists of identifiers, compared one by one.
-use Rattle.std.proofs.Common.{◌≡◌, ◌∙◌, ◌∷◌, ◌≢◌, ℕ, ◌-◌, ◌^◌, ◌<◌, ◌&&◌, ◌||◌, min, not, List, [], Option, Some, None, true, ap, ap₂, refl}
+use Rattle.std.proofs.Common.{◌≡◌, ◌∙◌, ◌∷◌, ◌≢◌, ℕ, ◌-◌, ◌^◌, ◌<◌, ◌||◌, min, not, List, [], Option, Some, None, true, ap, ap₂, refl}
 use Rattle.std.proofs.Common.{Bool, false, option_map, ◌==◌, arith, sym}
 use Rattle.std.proofs.lemmas.Bool.{and_parts}
 use Rattle.std.specs.Cmp.Lexicographic.{slice_cmp}

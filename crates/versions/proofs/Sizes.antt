@@ -1,5 +1,5 @@
 -- Numbers of 64 bits, read with a cap.
-use Rattle.std.proofs.Common.{◌≡◌, ℕ, ◌-◌, ◌^◌, ◌<◌, min, nat_lt, ◌&&◌, ◌||◌, not, Bool, true, List, arith}
+use Rattle.std.proofs.Common.{◌≡◌, ℕ, ◌-◌, ◌^◌, ◌<◌, min, nat_lt, ◌||◌, not, Bool, true, List, arith}
 use Rattle.std.proofs.lemmas.Bool.{and_parts}
 use Rattle.std.proofs.lemmas.Bool.Decides.{nat_tests}
 use Rattle.text_numbers.specs.Numbers.{number}

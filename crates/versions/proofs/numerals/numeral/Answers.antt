@@ -1,5 +1,5 @@
 -- Proofs of `numerals::numeral`: a number that is allowed fits.
-use Rattle.std.proofs.Common.{◌≡◌, ◌∙◌, Bool, Option, None, Some, true, ◌&&◌, ◌==◌, cond, length, not, ap, arith, refl, sym}
+use Rattle.std.proofs.Common.{◌≡◌, ◌∙◌, Bool, Option, None, Some, true, ◌&&◌, ◌==◌, cond, length, not, ap, arith, sym}
 use Rattle.text_numbers.specs.Numbers.{number}
 use Rattle.versions.proofs.Sizes.{allowed_small}
 use Rattle.versions.specs.Versions.{is_allowed}

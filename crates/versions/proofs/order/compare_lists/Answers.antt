@@ -1,11 +1,9 @@
 -- Proofs of `order::compare_lists`: identifiers are compared until two differ or a list ends.
-use Rattle.std.proofs.Common.{◌≡◌, ◌∙◌, ◌≢◌, List, ℕ, Option, None, Some, true, ap, ap₂, option_map, subst, sym}
-use Rattle.std.specs.Borrow.{Bor}
-use Rattle.std.specs.declared.cmp.Ordering.TheVariants.{Equal}
+use Rattle.std.proofs.Common.{◌≡◌, ◌∙◌, Some, true, ap, ap₂, option_map, subst, sym}
 use Rattle.versions.proofs.Comparing.{both_end, both_go_on, decided, equal, first_ends, is_absent, is_present, second_ends, unequal, valid_after, valid_first}
 use Rattle.versions.proofs.Dots.{after_shorter}
 use Rattle.versions.proofs.order.compare_lists.Goals as goal
-use Rattle.versions.specs.Identifiers.{after_first, first, is_pre_identifier}
+use Rattle.versions.specs.Identifiers.{after_first, is_pre_identifier}
 use Rattle.versions.specs.Order.{identifier_cmp}
 
 pub compare_identifiers-order-requires-clause-first : goal.compare_identifiers-order-requires-clause-first
