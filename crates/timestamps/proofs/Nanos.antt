@@ -1,5 +1,5 @@
 -- The nanoseconds of at most nine digits.
-use Rattle.std.proofs.Common.{◌≡◌, ◌∙◌, ℕ, ◌+◌, ◌*◌, ◌-◌, ◌^◌, ◌<◌, ◌≤◌, List, length, take, min, arith, lit<, ap, ap₂, sym, subst}
+use Rattle.std.proofs.Common.{◌≡◌, ◌∙◌, ℕ, ◌*◌, ◌-◌, ◌^◌, ◌<◌, ◌≤◌, List, length, take, min, arith, lit<, ap, ap₂, sym, subst}
 use Rattle.std.proofs.Math.Nat.{mul-le-mul, pow-le-pow_right}
 use Rattle.std.proofs.lemmas.List.{length-take, take_min}
 use Rattle.text_numbers.proofs.Decimals.{digits_front, digits_take, small_number}

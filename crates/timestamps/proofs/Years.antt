@@ -1,7 +1,7 @@
 -- The days before a year.
-use Rattle.std.proofs.Common.{◌≡◌, ℕ, suc, ◌+◌, ◌*◌, ◌-◌, ◌/◌, ◌%◌, ◌<◌, ◌≤◌, ◌==◌, ◌&&◌, ◌||◌, not, Bool, true, false, cond, arith, refl}
+use Rattle.std.proofs.Common.{◌≡◌, ℕ, suc, ◌+◌, ◌*◌, ◌%◌, ◌≤◌, ◌==◌, ◌&&◌, ◌||◌, not, Bool, true, false, cond, arith, refl}
 use Rattle.std.proofs.lemmas.Bool.Decides.{nat_tests}
-use Rattle.timestamps.specs.Calendar.{days_before_year, days_in, days_of_months, is_leap, year_days}
+use Rattle.timestamps.specs.Calendar.{days_before_year, days_in, days_of_months, year_days}
 
 pub begins : (y : ℕ) → days_before_year y ≤ 366 * y
 begins y = omega arith

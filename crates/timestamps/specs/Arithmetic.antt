@@ -1,5 +1,5 @@
 -- Sums and differences with timestamps (cel-go, common/types/overflow.go), in nanoseconds.
-use Rattle.std.specs.Prelude.{ℕ, ◌^◌, ℤ, pos, negsuc, ◌-ℤ◌, ◌*ℤ◌, Bool, nat_lt, Option, option_and_then}
+use Rattle.std.specs.Prelude.{◌^◌, ℤ, pos, negsuc, ◌-ℤ◌, ◌*ℤ◌, Bool, nat_lt, Option, option_and_then}
 use Rattle.std.specs.Int.{int_div_euclid}
 use Rattle.timestamps.specs.Timestamps.{when}
 

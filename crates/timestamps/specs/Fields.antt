@@ -1,5 +1,5 @@
 -- The fields of a timestamp, in UTC (cel-go, common/types/timestamp.go).
-use Rattle.std.specs.Prelude.{◌≡◌, ℕ, ◌+◌, ◌*◌, ◌/◌, ◌%◌, ◌<◌, ℤ, pos, ◌+ℤ◌, unsigned_abs, Bool, true}
+use Rattle.std.specs.Prelude.{◌≡◌, ℕ, ◌+◌, ◌/◌, ◌%◌, ℤ, pos, ◌+ℤ◌, unsigned_abs, true}
 use Rattle.timestamps.specs.Calendar.{day_number, days_before_year, is_day}
 use Rattle.timestamps.specs.declared.date.Date.{Date}
 use Rattle.timestamps.specs.declared.fields.Fields.{Fields}

@@ -1,10 +1,10 @@
 -- Proofs of `dates::date_in`: the months passed, and the days left.
-use Rattle.std.proofs.Common.{◌≡◌, ◌∙◌, ◌+◌, ◌<◌, ap, arith, sym, subst, refl}
+use Rattle.std.proofs.Common.{◌≡◌, ◌∙◌, ◌+◌, ◌<◌, ap, arith, sym, subst}
 use Rattle.timestamps.proofs.DateIn.{date_made}
 use Rattle.timestamps.proofs.Years.{months_follow, no_month}
 use Rattle.timestamps.proofs.dates.date_in.Goals as goal
 use Rattle.timestamps.proofs.dates.date_in.Goals.{then-months-test+else-days_in-rest, else-months-test}
-use Rattle.timestamps.specs.Calendar.{days_in, days_of_months, is_leap}
+use Rattle.timestamps.specs.Calendar.{days_in, days_of_months}
 
 pub months-init : goal.months-init
 months-init c = record { few = omega arith; so_far = omega (arith, no_month c.is_leap-leap.result) }

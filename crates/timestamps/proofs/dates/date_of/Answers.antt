@@ -1,5 +1,5 @@
 -- Proofs of `dates::date_of`: the date has the day's number, and its year the days before it.
-use Rattle.std.proofs.Common.{◌≡◌, ◌∙◌, ◌+◌, ◌-◌, ap, arith, subst}
+use Rattle.std.proofs.Common.{◌≡◌, ap, arith}
 use Rattle.timestamps.proofs.dates.date_of.Goals as goal
 use Rattle.timestamps.specs.Calendar.{days_before_year}
 

@@ -1,5 +1,5 @@
 -- Proofs of `fractions::nanos_in`: nine digits fit.
-use Rattle.std.proofs.Common.{◌≡◌, ◌*◌, ◌-◌, ◌^◌, ◌<◌, ◌≤◌, ap₂, arith, length, subst, sym}
+use Rattle.std.proofs.Common.{◌≡◌, ◌*◌, ◌-◌, ◌≤◌, ap₂, arith, length, subst, sym}
 use Rattle.std.proofs.Math.Nat.{mul-le-mul}
 use Rattle.text_numbers.specs.Numbers.{number}
 use Rattle.timestamps.proofs.Nanos.{few_digits, small_power}

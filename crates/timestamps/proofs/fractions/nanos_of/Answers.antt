@@ -1,5 +1,4 @@
 -- Proofs of `fractions::nanos_of`: digits beyond nine are cut.
-use Rattle.std.proofs.Common.{arith}
 use Rattle.timestamps.proofs.Nanos.{are_some, cut_digits}
 use Rattle.timestamps.proofs.fractions.nanos_of.Goals as goal
 
