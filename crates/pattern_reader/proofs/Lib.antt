@@ -1,0 +1,7 @@
+pub mod Measured
+pub mod Loop
+pub mod Outcomes
+pub mod OneOutcome
+pub mod Bytes
+pub mod Compiled
+pub mod Spans

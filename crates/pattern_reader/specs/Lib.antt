@@ -1,0 +1,15 @@
+pub mod Points
+pub mod Counts
+pub mod Escapes
+pub mod Brackets
+pub mod Openings
+pub mod Items
+pub mod Flags
+pub mod Tree
+pub mod Reading
+pub mod Measures
+pub mod Written
+pub mod Shown
+pub mod Patterns
+pub mod Laws
+pub mod Rows
