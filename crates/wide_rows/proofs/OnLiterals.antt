@@ -18,7 +18,7 @@ use Rattle.wide_tokens.specs.Lexed.{front}
 use Rattle.wide_tokens.specs.Texts.{content}
 use Rattle.wide_reader.specs.Faults.{fault, wides_fault, items_fault, entries_fault}
 use Rattle.wide_meaning.specs.Functions.{function_named, method_named, text_method, optional_method, list_method}
-use Rattle.wide_meaning.specs.Functions.{optional_named, sets_named, qualified_named}
+use Rattle.wide_meaning.specs.Functions.{item_method, items_method, optional_named, sets_named, qualified_named}
 use Rattle.wide_meaning.specs.Meaning.{wide_meaning}
 use Rattle.wide_translation.specs.Uses.{uses}
 use Rattle.wide_widths.specs.Narrow.{is_narrow, is_scalar}
@@ -38,7 +38,7 @@ faults_on_literals = tt
 
 -- what is unfolded to find a literal name
 unfoldable pub names_on_literals : ⊤
-unfolding function_named method_named text_method optional_method list_method optional_named sets_named qualified_named
+unfolding function_named method_named text_method optional_method list_method item_method items_method optional_named sets_named qualified_named
 names_on_literals = tt
 
 -- what is unfolded to compute the meaning of a literal expression
