@@ -24,7 +24,7 @@ use Rattle.admission.proofs.Said.{same_form}
 use Rattle.admission.proofs.RootContents.{given_have_values, given_are_started}
 use Rattle.admission.proofs.WrappedRoots.{placed_have_values, placed_fit}
 use Rattle.admission.specs.Deciding.{placed_roots}
-use Rattle.admission.specs.Starting.{gate_contents, IsFirst, IsStart, StartsGate}
+use Rattle.admission.specs.Starting.{gate_contents, IsFirstState, IsStart, StartsGate}
 use Rattle.admission.specs.declared.run_error.RunError.TheVariants.{PolicyRefused, Memory}
 
 -- ---- the number of findings
@@ -209,7 +209,7 @@ module _ (gate : GatePolicy) (d : Documents) (of : IsGateOn d.language d.policy 
         let by : s.status ≡ Fault fault = sym same ∙ faulted in
         stopped_by fault by (stopped (ap is_running by))
 
-  module _ (laws : Laws) (values : Contents) (given : values_given d ≡ Ok values) (start : State) (first : IsFirst gate values start) where
+  module _ (laws : Laws) (values : Contents) (given : values_given d ≡ Ok values) (start : State) (first : IsFirstState gate values start) where
     own_roots : AreOfRoots values
     own_roots = given_have_values laws.tables laws.canonical (Some d.review) d.namespace d.params values given
 

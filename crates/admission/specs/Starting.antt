@@ -24,23 +24,23 @@ abbrev pub IsAbove : GatePolicy → Contents → Type 0
 IsAbove g values = (own : Roots) → values ≡ started own → charge_limit < (gate_contents g own).charge
 
 -- the state before the first step, if the contents are those of documents' roots
-abbrev pub IsFirst : GatePolicy → Contents → State → Type 0
-IsFirst g values s = (own : Roots) → values ≡ started own → IsStart g own s
+abbrev pub IsFirstState : GatePolicy → Contents → State → Type 0
+IsFirstState g values s = (own : Roots) → values ≡ started own → IsStart g own s
 
 -- that state; or the roots are too large, or an allocation failed
 abbrev pub StartsGate : GatePolicy → Contents → Result State RunError → Type 0
-StartsGate g values (Ok s) = IsFirst g values s
+StartsGate g values (Ok s) = IsFirstState g values s
 StartsGate g values (Err ReviewRefused) = IsAbove g values
 StartsGate g values (Err Memory) = Unit {0}
 StartsGate g values (Err e) = ⊥
 
 -- the contents on which the program runs, likewise
-pub record IsPlaced (g : GatePolicy) (own : Roots) (placed : Contents) : Type 0 where
+pub record HasPlacedRoots (g : GatePolicy) (own : Roots) (placed : Contents) : Type 0 where
   pub is : placed ≡ gate_contents g own
   pub fit : g.wrapped ≡ true → (gate_contents g own).charge ≤ charge_limit
 
 abbrev pub PlacesRoots : GatePolicy → Contents → Result Held WrapError → Type 0
-PlacesRoots g values (Ok t) = (own : Roots) → values ≡ started own → IsPlaced g own (held_contents t)
+PlacesRoots g values (Ok t) = (own : Roots) → values ≡ started own → HasPlacedRoots g own (held_contents t)
 PlacesRoots g values (Err NoRoots) = IsAbove g values
 PlacesRoots g values (Err TooLarge) = IsAbove g values
 PlacesRoots g values (Err wrap_error.Memory) = Unit {0}

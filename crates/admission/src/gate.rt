@@ -21,7 +21,7 @@ ghost use Rattle.admission.specs.Lent.{documents_in};
 ghost use Rattle.admission.specs.Decisions.{decision_value, decision_view, said_view, DecidesReview};
 ghost use Rattle.admission.specs.Findings.{findings_view, FindsReview};
 ghost use Rattle.admission.specs.Standing.{exactly, RunAgrees};
-ghost use Rattle.admission.specs.Starting.{IsFirst, PlacesRoots, StartsGate};
+ghost use Rattle.admission.specs.Starting.{IsFirstState, PlacesRoots, StartsGate};
 ghost use Rattle.admission.specs.declared.language.Language.{Language};
 
 use crate::decision::Decision;
@@ -248,9 +248,9 @@ impl Gate {
     /// The machine is borrowed, since it is large.
     fn run(&self, machine: &mut Machine<Table, Guest>, limits: Limits) -> Result<(), RunError>
         ensures exits { (d : Documents) (uid : List ℕ) (roots : Contents) → IsGateOn d.language d.policy self.now → AreGiven d roots uid
-            → IsFirst self.now roots machine.old → Exits self.now.told d limits (exit_view uid (exit_state machine.new result)) }
+            → IsFirstState self.now roots machine.old → Exits self.now.told d limits (exit_view uid (exit_state machine.new result)) }
         ensures runs { (d : Documents) (uid : List ℕ) (roots : Contents) → IsGateOn d.language d.policy self.now → AreGiven d roots uid
-            → IsFirst self.now roots machine.old → RunAgrees (exactly self.now.image) d limits (exit_view uid (exit_state machine.new result)) }
+            → IsFirstState self.now roots machine.old → RunAgrees (exactly self.now.image) d limits (exit_view uid (exit_state machine.new result)) }
     {
         starts_stand();
         let end = machine.run_within(limits.steps, limits.reads)?;

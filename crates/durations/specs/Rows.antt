@@ -76,7 +76,7 @@ pub record FineDurationRowsHold : Type 0 where
 
 -- whole units: those of Go's Duration.Hours, Minutes, Seconds and Milliseconds, cut. Of a whole unit but a nanosecond the
 -- sum of doubles is the next unit, if there are many units: 16777216 is 2^24, 4096 is 2^12
-pub record PartRowsHold : Type 0 where
+pub record DurationPartRowsHold : Type 0 where
   pub some_hours : hours (pos 5400000000000) ≡ pos 1
   pub some_minutes : minutes (pos 5400000000000) ≡ pos 90
   pub some_seconds : seconds (pos 10500000000) ≡ pos 10
@@ -95,7 +95,7 @@ pub record PartRowsHold : Type 0 where
   pub least_minutes : minutes (negsuc 9223372036854775807) ≡ negsuc 153722866
 
 -- sums: within 64 bits
-pub record SumRowsHold : Type 0 where
+pub record DurationSumRowsHold : Type 0 where
   pub within : fitting (pos 60000000000 +ℤ negsuc 999999999) ≡ Some (pos 59000000000)
   pub greatest : fitting (pos 9223372036854775806 +ℤ pos 1) ≡ Some (pos 9223372036854775807)
   pub above : fitting (pos 9223372036854775807 +ℤ pos 1) ≡ None

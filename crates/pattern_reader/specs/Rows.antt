@@ -36,7 +36,7 @@ pub record TakenRowsHold : Type 0 where
   pub flag_at_start : outcome Match (codes "(?i)k") ≡ Some (taken (kind.Literal 107 ∷ []) (join empty (one (kind.Literal 107))))
 
 -- the code point before which the first thing that does not fit begins
-pub record RefusedRowsHold : Type 0 where
+pub record RefusedPatternRowsHold : Type 0 where
   pub flags_inside : outcome Match (codes "^(?i)ab$") ≡ Some (refused 1)
   pub brace_without_count : outcome Match (codes "a{x") ≡ Some (refused 1)
   pub zero_before_a_digit : outcome Match (codes "a{01}") ≡ Some (refused 1)

@@ -1,7 +1,7 @@
 //! Laws of the definitions. Each is the clause of a function that does nothing.
 
 ghost use Rattle.pattern_reader.specs.Laws.{ComputesOutcomes, OutcomesAreUnique};
-ghost use Rattle.pattern_reader.specs.Rows.{RefusedRowsHold, TakenRowsHold, WrittenRowsHold};
+ghost use Rattle.pattern_reader.specs.Rows.{RefusedPatternRowsHold, TakenRowsHold, WrittenRowsHold};
 
 /// A pattern has one outcome.
 #[tactic(auto, using(crate::proofs::OneOutcome::outcomes_are_unique))]
@@ -22,7 +22,7 @@ pub fn taken_rows_hold()
 
 /// Where patterns are refused.
 pub fn refused_rows_hold()
-    ensures { RefusedRowsHold }
+    ensures { RefusedPatternRowsHold }
 {}
 
 /// Texts that are written.

@@ -48,7 +48,7 @@ pub record QuantityRowsHold : Type 0 where
   pub exponent_alone : billionths_of (codes "e5") ≡ Some (pos 0)
 
 -- texts that are not quantities
-pub record RefusedRowsHold : Type 0 where
+pub record RefusedQuantityRowsHold : Type 0 where
   pub empty : is_quantity [] ≡ false
   pub no_digits_pebi : is_quantity (codes "Pi") ≡ false
   pub no_digits_too_small : is_quantity (codes "e-10") ≡ false
@@ -105,7 +105,7 @@ pub record LimitRowsHold : Type 0 where
   pub great : quantity_of (codes "100000000E") ≡ Ok (record { billionths = pos 100000000000000000000000000000000000 })
 
 -- the order of quantities, and sums: 200M and 0.2G, 50M and 50Mi, 50k and 20
-pub record OrderRowsHold : Type 0 where
+pub record QuantityOrderRowsHold : Type 0 where
   pub equal : order_of (pos 200000000000000000) (pos 200000000000000000) ≡ Equal
   pub less : order_of (pos 50000000000000000) (pos 52428800000000000) ≡ Less
   pub greater : order_of (pos 52428800000000000) (pos 50000000000000000) ≡ Greater

@@ -7,7 +7,7 @@ use Rattle.std.proofs.lemmas.Bool.Decides.{nat_tests}
 use Rattle.std.proofs.lemmas.List.Sums.{prefix_len-drop_all, prefix_len-drop_no, prefix_len-drop_yes}
 use Rattle.std.specs.Char.{is_ascii_digit}
 use Rattle.std.specs.List.{list_all, prefix_len}
-use Rattle.text_numbers.specs.Numbers.{AreDigits, IsFraction, Written, digits_len, fraction_len, number, number_after, written}
+use Rattle.text_numbers.specs.Numbers.{AreAllDigits, IsFraction, Written, digits_len, fraction_len, number, number_after, written}
 use mathlib.Core.Logic.{inl, inr}
 
 pub digits_empty : (xs : List ℕ) (n : ℕ) → length xs ≤ n → digits_len (drop n xs) ≡ 0
@@ -65,7 +65,7 @@ grows n d p h =
     omega (arith, a)
 
 -- digits denote less than the power of 10
-below : (n : ℕ) (ds : List ℕ) → AreDigits ds → number_after n ds < (n + 1) * 10 ^ length ds
+below : (n : ℕ) (ds : List ℕ) → AreAllDigits ds → number_after n ds < (n + 1) * 10 ^ length ds
 unfolding number_after
 below n [] h = omega arith
 below n (d ∷ ds) h =
@@ -75,24 +75,24 @@ below n (d ∷ ds) h =
     let k : 10 ^ suc (length ds) ≡ 10 * 10 ^ length ds = pow-succ' 10 (length ds) in
     rw k (omega (arith, b, g))
 
-front_by : (x : ℕ) (xs : List ℕ) (t : Bool) → is_ascii_digit x ≡ t → AreDigits (take (prefix_len is_ascii_digit xs) xs) → AreDigits (take (cond t (1 + prefix_len is_ascii_digit xs) 0) (x ∷ xs))
+front_by : (x : ℕ) (xs : List ℕ) (t : Bool) → is_ascii_digit x ≡ t → AreAllDigits (take (prefix_len is_ascii_digit xs) xs) → AreAllDigits (take (cond t (1 + prefix_len is_ascii_digit xs) 0) (x ∷ xs))
 front_by x xs true e h =
     let q : 1 + prefix_len is_ascii_digit xs ≡ suc (prefix_len is_ascii_digit xs) = omega arith in
     rw q (ap₂ (λ a b. a && b) e h)
 front_by x xs false e h = refl
 
-pub digits_front : (xs : List ℕ) → AreDigits (take (prefix_len is_ascii_digit xs) xs)
+pub digits_front : (xs : List ℕ) → AreAllDigits (take (prefix_len is_ascii_digit xs) xs)
 digits_front [] = refl
 digits_front (x ∷ xs) = front_by x xs (is_ascii_digit x) refl (digits_front xs)
 
-pub digits_take : (n : ℕ) (ds : List ℕ) → AreDigits ds → AreDigits (take n ds)
+pub digits_take : (n : ℕ) (ds : List ℕ) → AreAllDigits ds → AreAllDigits (take n ds)
 digits_take zero ds h = refl
 digits_take (suc n) [] h = refl
 digits_take (suc n) (d ∷ ds) h =
     let parts = and_parts (is_ascii_digit d) (list_all is_ascii_digit ds) h in
     ap₂ (λ a b. a && b) parts.0 (digits_take n ds parts.1)
 
-pub small_number : (ds : List ℕ) → AreDigits ds → number ds < 10 ^ length ds
+pub small_number : (ds : List ℕ) → AreAllDigits ds → number ds < 10 ^ length ds
 small_number ds h = let b = below 0 ds h in omega (arith, b)
 
 point_by : (text : List ℕ) (t : Bool) (b : ℕ) → IsFraction (drop 1 (take (cond t (suc (digits_len text)) 0) (b ∷ text)))

@@ -45,8 +45,8 @@ abbrev pub number_view : Number → Written
 number_view n = record { whole = n.whole.now; fraction = n.fraction.now; rest = n.rest.now }
 
 -- each byte is a decimal digit
-abbrev pub AreDigits : List ℕ → Type 0
-AreDigits digits = list_all is_ascii_digit digits ≡ true
+abbrev pub AreAllDigits : List ℕ → Type 0
+AreAllDigits digits = list_all is_ascii_digit digits ≡ true
 
 -- the digits after a point denote less than 1
 abbrev pub IsFraction : List ℕ → Type 0

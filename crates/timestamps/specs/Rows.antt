@@ -52,7 +52,7 @@ pub record RefusedTimestampRowsHold : Type 0 where
   pub after_year_9999 : timestamp_of (codes "9999-12-31T23:59:59-00:01") ≡ None
 
 -- fields
-pub record FieldRowsHold : Type 0 where
+pub record TimestampFieldRowsHold : Type 0 where
   pub cel_go : AreFields (pos 1234567890123456789) (record {
     date = record { year = 2009; month = 2; day = 13 };
     day_of_year = 43;

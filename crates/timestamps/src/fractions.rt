@@ -1,6 +1,6 @@
 //! Fractions of a second.
 ghost use Rattle.std.specs.Prelude.{◌≡◌, ◌≤◌, ◌*◌, ◌-◌, ◌^◌, drop, length, option_map};
-ghost use Rattle.text_numbers.specs.Numbers.{AreDigits, number};
+ghost use Rattle.text_numbers.specs.Numbers.{AreAllDigits, number};
 ghost use Rattle.timestamps.specs.Timestamps as specs;
 
 use crate::bytes::has_at;
@@ -8,7 +8,7 @@ use text_numbers::{digits_len, digits_number};
 
 /// The nanoseconds of at most nine digits.
 fn nanos_in(digits: &[u8]) -> u64
-    requires digits { AreDigits digits.now }
+    requires digits { AreAllDigits digits.now }
     requires few { length digits.now ≤ 9 }
     ensures { result ≡ number digits.now * 10 ^ (9 - length digits.now) }
 {
@@ -18,7 +18,7 @@ fn nanos_in(digits: &[u8]) -> u64
 
 /// The nanoseconds of the digits of a fraction.
 fn nanos_of(digits: &[u8]) -> u64
-    requires { AreDigits digits.now }
+    requires { AreAllDigits digits.now }
     ensures { result ≡ specs.nanos_of digits.now }
 {
     let len = 9usize.min(digits.len());

@@ -1,7 +1,7 @@
 //! Laws of the calendar, and texts and timestamps with the values that the definitions give. Each is the clause of a function
 //! that does nothing.
 ghost use Rattle.timestamps.specs.Laws.{DatesDiffer, YearsFollow};
-ghost use Rattle.timestamps.specs.Rows.{FieldRowsHold, RefusedTimestampRowsHold, SpanRowsHold, TimestampRowsHold};
+ghost use Rattle.timestamps.specs.Rows.{TimestampFieldRowsHold, RefusedTimestampRowsHold, SpanRowsHold, TimestampRowsHold};
 
 /// Texts with their timestamps.
 pub fn timestamp_rows_hold()
@@ -16,7 +16,7 @@ pub fn refused_timestamp_rows_hold()
 /// Timestamps with their fields.
 #[tactic(auto, unfolding(crate::specs::Calendar::is_day, crate::specs::Calendar::day_number, crate::specs::Calendar::days_of_months))]
 pub fn field_rows_hold()
-    ensures { FieldRowsHold }
+    ensures { TimestampFieldRowsHold }
 {}
 
 /// Sums and differences.

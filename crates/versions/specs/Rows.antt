@@ -20,7 +20,7 @@ pub record VersionRowsHold : Type 0 where
       ≡ Some (record { major = 18446744073709551615; minor = 0; patch = 0; pre = codes "18446744073709551615" })
 
 -- texts that are not versions
-pub record RefusedRowsHold : Type 0 where
+pub record RefusedVersionRowsHold : Type 0 where
   pub empty : version_of false [] ≡ None
   pub major_alone : version_of false (codes "1") ≡ None
   pub no_patch : version_of false (codes "1.2") ≡ None
@@ -63,7 +63,7 @@ pub record NormalizedRowsHold : Type 0 where
   pub zero_in_pre : version_of true (codes "1.2.3-01") ≡ None
 
 -- the order of pre-releases, and of versions
-pub record OrderRowsHold : Type 0 where
+pub record VersionOrderRowsHold : Type 0 where
   pub longer : pre_cmp (codes "alpha") (codes "alpha.1") ≡ Less
   pub number_first : pre_cmp (codes "alpha.1") (codes "alpha.beta") ≡ Less
   pub by_bytes : pre_cmp (codes "alpha.beta") (codes "beta") ≡ Less

@@ -1,5 +1,5 @@
 //! Texts and versions with the values that the definitions give. Each is the clause of a function that does nothing.
-ghost use Rattle.versions.specs.Rows.{NormalizedRowsHold, OrderRowsHold, RefusedRowsHold, VersionRowsHold};
+ghost use Rattle.versions.specs.Rows.{NormalizedRowsHold, VersionOrderRowsHold, RefusedVersionRowsHold, VersionRowsHold};
 
 /// Versions as they are.
 pub fn version_rows_hold()
@@ -8,7 +8,7 @@ pub fn version_rows_hold()
 
 /// Texts that are not versions.
 pub fn refused_rows_hold()
-    ensures { RefusedRowsHold }
+    ensures { RefusedVersionRowsHold }
 {}
 
 /// Normalized versions.
@@ -19,5 +19,5 @@ pub fn normalized_rows_hold()
 /// The order of versions.
 #[tactic(auto, unfolding(crate::specs::Order::identifier_cmp, crate::specs::Order::identifiers_cmp, crate::specs::Order::pre_cmp, crate::specs::Order::precedence, text_numbers::specs::Numbers::number_after))]
 pub fn order_rows_hold()
-    ensures { OrderRowsHold }
+    ensures { VersionOrderRowsHold }
 {}

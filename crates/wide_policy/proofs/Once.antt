@@ -33,7 +33,7 @@ use Rattle.wide_policy.proofs.Trees.{parts_hold}
 use Rattle.wide_policy.specs.Carrying.{EachPair}
 use Rattle.wide_policy.specs.Depth.{is_too_deep}
 use Rattle.wide_policy.specs.Laws.{HasSameTexts}
-use Rattle.wide_policy.specs.Reading.{AreTaken, AreWrapped, IsWidePolicy, WidePolicyReturns}
+use Rattle.wide_policy.specs.Reading.{ArePartsTaken, AreWrapped, IsWidePolicy, WidePolicyReturns}
 use Rattle.wide_policy.specs.Taking.{Visible, visible, TakenExpression, IsTranslated, scope_for, IsTakenPart, IsRefusedPart, IsUnreadWide, RefusesPart, EndsWith, TakesNamed, TakesWideVariable, RefusesWideVariable, TakesWideCondition, RefusesWideCondition, TakenValidation, TakesWideMessage, TakesWideValidation, RefusesWideValidation, TakenParts, WidePartsEnd, expression_of, fits, kept_text, profile_named, profile_of, profile_validation, source_of}
 use Rattle.wide_policy.specs.Taking as taking
 use Rattle.wide_policy.specs.WideDocuments.{wide_policy_in}
@@ -334,7 +334,7 @@ record GiveTheSame (p : Policy) (a b : TakenParts) : Type 0 where
   source : source_of p a ≡ source_of p b
   profile : profile_of p a ≡ profile_of p b
 
-one_taken_as : (v w : Bool) (r : MessageRule) (p : Policy) (a b : TakenParts) → AreTaken v r p a → AreTaken w r p b → (v ≡ w) × GiveTheSame p a b
+one_taken_as : (v w : Bool) (r : MessageRule) (p : Policy) (a b : TakenParts) → ArePartsTaken v r p a → ArePartsTaken w r p b → (v ≡ w) × GiveTheSame p a b
 one_taken_as false false r p a b is also = (refl, record { source = same_source false r p a b is also; profile = same_profile false r p a b is also })
 one_taken_as false true r p a b is also = absurd (plain_apart r p a b is also)
 one_taken_as true false r p a b is also = absurd (plain_apart r p b a also is)
@@ -343,7 +343,7 @@ one_taken_as true true r p a b is also = (refl, record { source = same_source tr
 pub one_policy : (r : MessageRule) (document : List ℕ) (p q : WidePolicy) → IsWidePolicy r document p → IsWidePolicy r document q → HasSameTexts p q
 one_policy r document p q is also =
     let parsed : is.parsed ≡ also.parsed = ok_once _ _ (sym is.is_said ∙ also.is_said) in
-    let taken = subst (λ (o : Policy). AreTaken p.wrapped r o is.parts) parsed is.taken in
+    let taken = subst (λ (o : Policy). ArePartsTaken p.wrapped r o is.parts) parsed is.taken in
     let same = one_taken_as p.wrapped q.wrapped r also.parsed is.parts also.parts taken also.taken in
     record {
       wrapped = same.0;
@@ -354,7 +354,7 @@ one_policy r document p q is also =
 refused_document : (document : List ℕ) (parsed : Policy) (e : WidePolicyError) → wide_policy_in document ≡ Ok parsed → wide_policy_in document ≡ Err e → ⊥
 refused_document document parsed e is also = let both : Ok parsed ≡ Err e = sym is ∙ also in absurd (cc)
 
-not_refused_as : (w : Bool) (r : MessageRule) (p : Policy) (a : TakenParts) (e : WidePolicyError) → AreTaken w r p a → WidePartsEnd false r p (Err e) → ((b : TakenParts) → AreWrapped r p b → ⊥) → ⊥
+not_refused_as : (w : Bool) (r : MessageRule) (p : Policy) (a : TakenParts) (e : WidePolicyError) → ArePartsTaken w r p a → WidePartsEnd false r p (Err e) → ((b : TakenParts) → AreWrapped r p b → ⊥) → ⊥
 not_refused_as false r p a e is end none = no_refusal false r p a (Err e) e is end refl
 not_refused_as true r p a e is end none = none a is
 
@@ -363,5 +363,5 @@ not_refused r document p (wide_error.Unread e) some is why = refused_document do
 not_refused r document p wide_error.HasAuditAnnotations some is why = refused_document document is.parsed wide_error.HasAuditAnnotations is.is_said why
 not_refused r document p (wide_error.InvalidExpression k n x) some is why =
     let parsed : is.parsed ≡ why.parsed = ok_once _ _ (sym is.is_said ∙ why.is_said) in
-    not_refused_as p.wrapped r why.parsed is.parts (wide_error.InvalidExpression k n x) (subst (λ (o : Policy). AreTaken p.wrapped r o is.parts) parsed is.taken) why.end why.unmended
+    not_refused_as p.wrapped r why.parsed is.parts (wide_error.InvalidExpression k n x) (subst (λ (o : Policy). ArePartsTaken p.wrapped r o is.parts) parsed is.taken) why.end why.unmended
 not_refused r document p wide_error.Memory some is why = some refl

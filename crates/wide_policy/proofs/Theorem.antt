@@ -21,7 +21,7 @@ use Rattle.wide_policy.proofs.Trees.{parts_hold, wide_tree_is, one_wide_tree, co
 use Rattle.wide_policy.specs.Carrying.{CarriedPolicyDecides, roots_for}
 use Rattle.wide_policy.specs.Laws.{DecidesByTexts}
 use Rattle.wide_policy.specs.NarrowTrees.{is_policy_tabled}
-use Rattle.wide_policy.specs.Reading.{AreTaken, DecidesAsWide, HasWideTree, IsWidePolicy, IsWideTree, WidePolicyReturns}
+use Rattle.wide_policy.specs.Reading.{ArePartsTaken, DecidesAsWide, HasWideTree, IsWidePolicy, IsWideTree, WidePolicyReturns}
 use Rattle.wide_policy.specs.Taking.{Visible, visible, RefusesPart, TakesWideVariable, RefusesWideVariable, TakesWideCondition, RefusesWideCondition, TakesWideValidation, RefusesWideValidation, TakenParts, WidePartsEnd, profile_of, source_of, tree_of, wide_tree_of}
 use Rattle.wide_policy.specs.Taking as taking
 use Rattle.wide_policy.specs.WideEvaluation.{wide_decision_of}
@@ -57,11 +57,11 @@ module _ (wrapped : Bool) (r : MessageRule) (p : Policy) (parts : TakenParts) (e
         subst (λ (q : Policy). DecidesAsWide wrapped q profile) (sym is) (subst (λ (q : Policy). DecidesAsWide wrapped (source_of p parts) q) (sym also) decides_by)
 
 -- the parts of a policy that is read
-end_of : (wrapped : Bool) (r : MessageRule) (p : Policy) (parts : TakenParts) → AreTaken wrapped r p parts → WidePartsEnd wrapped r p (Ok parts)
+end_of : (wrapped : Bool) (r : MessageRule) (p : Policy) (parts : TakenParts) → ArePartsTaken wrapped r p parts → WidePartsEnd wrapped r p (Ok parts)
 end_of false r p parts is = is
 end_of true r p parts is = is.end
 
-tabled_of : (wrapped : Bool) (r : MessageRule) (p : Policy) (parts : TakenParts) → AreTaken wrapped r p parts → wrapped ≡ true → is_policy_tabled (wide_tree_of parts) ≡ true
+tabled_of : (wrapped : Bool) (r : MessageRule) (p : Policy) (parts : TakenParts) → ArePartsTaken wrapped r p parts → wrapped ≡ true → is_policy_tabled (wide_tree_of parts) ≡ true
 tabled_of false r p parts is h = absurd (false≢true h)
 tabled_of true r p parts is h = is.tabled
 

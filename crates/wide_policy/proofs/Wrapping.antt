@@ -9,8 +9,8 @@ use Rattle.wide_policy.proofs.Once.{no_refusal, ok_once, same_source}
 use Rattle.wide_policy.proofs.Theorem.{has_tree, parts_fault}
 use Rattle.wide_policy.specs.Errors.{needs_indices}
 use Rattle.wide_policy.specs.NarrowTrees.{is_policy_tabled}
-use Rattle.wide_policy.specs.Reading.{AreTaken, AreWrapped, IsWidePolicy, IsWideTree, WidePolicyReturns}
-use Rattle.wide_policy.specs.Returns.{IsReadAs, IsRefusedAs, IsTabledOr, ReadsAs, ReturnsPolicy, ReturnsTabled, first_refusal}
+use Rattle.wide_policy.specs.Reading.{ArePartsTaken, AreWrapped, IsWidePolicy, IsWideTree, WidePolicyReturns}
+use Rattle.wide_policy.specs.Returns.{IsReadAs, IsRefusedAs, IsTabledOr, ReadsWide, ReturnsPolicy, ReturnsTabled, first_refusal}
 use Rattle.wide_policy.specs.Taking.{TakenParts, WidePartsEnd, source_of, wide_tree_of}
 use Rattle.wide_policy.specs.WideDocuments.{ReadsSource, wide_policy_in}
 use Rattle.wide_policy.specs.declared.expression_error.WideExpressionError.{WideExpressionError}
@@ -23,20 +23,20 @@ use Rattle.wide_policy.specs.declared.wide_policy_error.WidePolicyError.TheVaria
 -- ---- one reading
 
 module _ (wrapped : Bool) (r : MessageRule) (document : List ℕ) where
-  pub source_refused : (e : WidePolicyError) → ReadsSource (wide_policy_in document) (Err e) → ReadsAs wrapped r document (Err e)
+  pub source_refused : (e : WidePolicyError) → ReadsSource (wide_policy_in document) (Err e) → ReadsWide wrapped r document (Err e)
   source_refused (error.Unread e) is = is
   source_refused error.HasAuditAnnotations is = is
   source_refused (error.InvalidExpression p n x) is = absurd is
   source_refused error.Memory is = tt
 
   module _ (parsed : Policy) (said : wide_policy_in document ≡ Ok parsed) where
-    expression_refused : (e : WidePolicyError) → ReturnsPolicy wrapped r parsed (Err e) → ReadsAs wrapped r document (Err e)
+    expression_refused : (e : WidePolicyError) → ReturnsPolicy wrapped r parsed (Err e) → ReadsWide wrapped r document (Err e)
     expression_refused (error.Unread e) is = absurd (parts_fault wrapped r parsed (Err (error.Unread e)) (error.Unread e) (is (λ g. cc)) refl)
     expression_refused error.HasAuditAnnotations is = absurd (parts_fault wrapped r parsed (Err error.HasAuditAnnotations) error.HasAuditAnnotations (is (λ g. cc)) refl)
     expression_refused (error.InvalidExpression p n x) is = record { parsed = parsed; is_said = said; end = is (λ g. cc) }
     expression_refused error.Memory is = tt
 
-    pub whole_read : (x : Result WidePolicy WidePolicyError) → ReturnsPolicy wrapped r parsed x → ReadsAs wrapped r document x
+    pub whole_read : (x : Result WidePolicy WidePolicyError) → ReturnsPolicy wrapped r parsed x → ReadsWide wrapped r document x
     whole_read (Ok p) is = record { parsed = parsed; is_said = said; parts = is.0; end = is.1; is = is.2 }
     whole_read (Err e) is = expression_refused e is
 
@@ -58,19 +58,19 @@ need_of p n cause.Unwritten needs = absurd (false≢true needs)
 need_of p n cause.Memory needs = absurd (false≢true needs)
 
 module _ (r : MessageRule) (document : List ℕ) where
-  pub plain_read : (p : WidePolicy) → ReadsAs false r document (Ok p) → WidePolicyReturns r document (Ok p)
+  pub plain_read : (p : WidePolicy) → ReadsWide false r document (Ok p) → WidePolicyReturns r document (Ok p)
   plain_read p said = record {
     parsed = said.parsed;
     is_said = said.is_said;
     parts = said.parts;
-    taken = subst (λ (w : Bool). AreTaken w r said.parsed said.parts) (sym said.is.wrapped_is) said.end;
+    taken = subst (λ (w : Bool). ArePartsTaken w r said.parsed said.parts) (sym said.is.wrapped_is) said.end;
     source = said.is.source;
     profile = said.is.profile;
     left_out = said.is.left_out;
   }
 
   -- a refusal for something else
-  pub other_refusal : (e : WidePolicyError) → ReadsAs false r document (Err e) → needs_indices e ≡ false → WidePolicyReturns r document (Err e)
+  pub other_refusal : (e : WidePolicyError) → ReadsWide false r document (Err e) → needs_indices e ≡ false → WidePolicyReturns r document (Err e)
   other_refusal (error.Unread e) said other = said
   other_refusal error.HasAuditAnnotations said other = said
   other_refusal (error.InvalidExpression p n x) said other = record {
@@ -101,13 +101,13 @@ module _ (r : MessageRule) (document : List ℕ) where
         parsed = second.parsed;
         is_said = second.is_said;
         parts = second.parts;
-        taken = subst (λ (w : Bool). AreTaken w r second.parsed second.parts) (sym second.is.wrapped_is) are;
+        taken = subst (λ (w : Bool). ArePartsTaken w r second.parsed second.parts) (sym second.is.wrapped_is) are;
         source = second.is.source;
         profile = second.is.profile;
         left_out = second.is.left_out;
       }
 
-  wrapped_read : (e : WidePolicyError) (p q : WidePolicy) → ReadsAs false r document (Err e) → needs_indices e ≡ true → ReadsAs true r document (Ok p) → ReturnsTabled p (Some q)
+  wrapped_read : (e : WidePolicyError) (p q : WidePolicy) → ReadsWide false r document (Err e) → needs_indices e ≡ true → ReadsWide true r document (Ok p) → ReturnsTabled p (Some q)
       → WidePolicyReturns r document (Ok q)
   wrapped_read (error.Unread e) p q first needs second tabled = absurd (false≢true needs)
   wrapped_read error.HasAuditAnnotations p q first needs second tabled = absurd (false≢true needs)
@@ -116,14 +116,14 @@ module _ (r : MessageRule) (document : List ℕ) where
   wrapped_read error.Memory p q first needs second tabled = absurd (false≢true needs)
 
   -- the first refusal stays, if no parts are taken with a table
-  stays : (e : WidePolicyError) → ReadsAs false r document (Err e) → needs_indices e ≡ true
+  stays : (e : WidePolicyError) → ReadsWide false r document (Err e) → needs_indices e ≡ true
       → ((parsed : Policy) → wide_policy_in document ≡ Ok parsed → (parts : TakenParts) → AreWrapped r parsed parts → ⊥) → WidePolicyReturns r document (Err e)
   stays (error.Unread e) first needs none = first
   stays error.HasAuditAnnotations first needs none = first
   stays (error.InvalidExpression p n x) first needs none = record { parsed = first.parsed; is_said = first.is_said; end = first.end; unmended = none first.parsed first.is_said }
   stays error.Memory first needs none = tt
 
-  untabled_stays : (e : WidePolicyError) (p : WidePolicy) → ReadsAs false r document (Err e) → needs_indices e ≡ true → ReadsAs true r document (Ok p) → ReturnsTabled p None
+  untabled_stays : (e : WidePolicyError) (p : WidePolicy) → ReadsWide false r document (Err e) → needs_indices e ≡ true → ReadsWide true r document (Ok p) → ReturnsTabled p None
       → WidePolicyReturns r document (Err e)
   untabled_stays e p first needs second untabled = stays e first needs (λ parsed said parts is.
       let same : second.parsed ≡ parsed = ok_once _ _ (sym second.is_said ∙ said) in
@@ -131,7 +131,7 @@ module _ (r : MessageRule) (document : List ℕ) where
       let source : p.source ≡ source_of parsed parts = second.is.source ∙ ap (λ (o : Policy). source_of o second.parts) same ∙ same_source true r parsed second.parts parts end is.end in
       true≢false (sym is.tabled ∙ untabled (wide_tree_of parts) (has_tree true r parsed parts is.end p.source source)))
 
-  pub refused_stays : (e f : WidePolicyError) → ReadsAs false r document (Err e) → needs_indices e ≡ true → ReadsAs true r document (Err f)
+  pub refused_stays : (e f : WidePolicyError) → ReadsWide false r document (Err e) → needs_indices e ≡ true → ReadsWide true r document (Err f)
       → WidePolicyReturns r document (Err (first_refusal f e))
   refused_stays e (error.Unread f) first needs second = stays e first needs (λ parsed said parts is. let both : Ok parsed ≡ Err (error.Unread f) = sym said ∙ second in absurd (cc))
   refused_stays e error.HasAuditAnnotations first needs second = stays e first needs (λ parsed said parts is. let both : Ok parsed ≡ Err error.HasAuditAnnotations = sym said ∙ second in absurd (cc))
@@ -142,7 +142,7 @@ module _ (r : MessageRule) (document : List ℕ) where
   refused_stays e error.Memory first needs second = tt
 
   -- the result with a table, after the first refusal
-  pub either_read : (e : WidePolicyError) (p : WidePolicy) (x : Result WidePolicy WidePolicyError) → ReadsAs false r document (Err e) → needs_indices e ≡ true → ReadsAs true r document (Ok p)
+  pub either_read : (e : WidePolicyError) (p : WidePolicy) (x : Result WidePolicy WidePolicyError) → ReadsWide false r document (Err e) → needs_indices e ≡ true → ReadsWide true r document (Ok p)
       → IsTabledOr p e x → WidePolicyReturns r document x
   either_read e p (Ok q) first needs second said = wrapped_read e p q first needs second said
   either_read e p (Err error.Memory) first needs second said = tt

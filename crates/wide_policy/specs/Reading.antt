@@ -35,22 +35,22 @@ pub record AreWrapped (rule : MessageRule) (p : Policy) (parts : TakenParts) : T
   pub tabled : is_policy_tabled (wide_tree_of parts) ≡ true
 
 -- the parts are taken, with or without the table
-abbrev pub AreTaken : Bool → MessageRule → Policy → TakenParts → Type 0
-AreTaken false rule p parts = WidePartsEnd false rule p (Ok parts)
-AreTaken true rule p parts = AreWrapped rule p parts
+abbrev pub ArePartsTaken : Bool → MessageRule → Policy → TakenParts → Type 0
+ArePartsTaken false rule p parts = WidePartsEnd false rule p (Ok parts)
+ArePartsTaken true rule p parts = AreWrapped rule p parts
 
 -- the policy in the document, its expressions as its author wrote them, and the policy with their translations
 pub record IsWidePolicy (rule : MessageRule) (document : List ℕ) (p : WidePolicy) : Type 0 where
   pub parsed : Policy
   pub is_said : wide_policy_in document ≡ Ok parsed
   pub parts : TakenParts
-  pub taken : AreTaken p.wrapped rule parsed parts
+  pub taken : ArePartsTaken p.wrapped rule parsed parts
   pub source : p.source ≡ source_of parsed parts
   pub profile : p.profile ≡ profile_of parsed parts
   pub left_out : p.left_out.items ≡ notes_from 0 parts.validations
 
 -- an expression of the policy is refused, and a table of indices does not help
-pub record IsRefusedPolicy (rule : MessageRule) (document : List ℕ) (e : WidePolicyError) : Type 0 where
+pub record IsRefusedReading (rule : MessageRule) (document : List ℕ) (e : WidePolicyError) : Type 0 where
   pub parsed : Policy
   pub is_said : wide_policy_in document ≡ Ok parsed
   pub end : WidePartsEnd false rule parsed (Err e)
@@ -59,7 +59,7 @@ pub record IsRefusedPolicy (rule : MessageRule) (document : List ℕ) (e : WideP
 -- the policy, or the first refusal; or an allocation failed
 abbrev pub WidePolicyReturns : MessageRule → List ℕ → Result WidePolicy WidePolicyError → Type 0
 WidePolicyReturns rule document (Ok p) = IsWidePolicy rule document p
-WidePolicyReturns rule document (Err (InvalidExpression part place e)) = IsRefusedPolicy rule document (InvalidExpression part place e)
+WidePolicyReturns rule document (Err (InvalidExpression part place e)) = IsRefusedReading rule document (InvalidExpression part place e)
 WidePolicyReturns rule document (Err Memory) = Unit {0}
 WidePolicyReturns rule document (Err e) = wide_policy_in document ≡ Err e
 

@@ -169,12 +169,12 @@ pub record IsRefusedAs (wrapped : Bool) (rule : MessageRule) (document : List �
   pub is_said : wide_policy_in document ≡ Ok parsed
   pub end : WidePartsEnd wrapped rule parsed (Err e)
 
-abbrev pub ReadsAs : Bool → MessageRule → List ℕ → Result WidePolicy WidePolicyError → Type 0
-ReadsAs wrapped rule document (Ok p) = IsReadAs wrapped rule document p
-ReadsAs wrapped rule document (Err (InvalidExpression part place e)) =
+abbrev pub ReadsWide : Bool → MessageRule → List ℕ → Result WidePolicy WidePolicyError → Type 0
+ReadsWide wrapped rule document (Ok p) = IsReadAs wrapped rule document p
+ReadsWide wrapped rule document (Err (InvalidExpression part place e)) =
     IsRefusedAs wrapped rule document (InvalidExpression part place e)
-ReadsAs wrapped rule document (Err wide_error.Memory) = Unit {0}
-ReadsAs wrapped rule document (Err e) = wide_policy_in document ≡ Err e
+ReadsWide wrapped rule document (Err wide_error.Memory) = Unit {0}
+ReadsWide wrapped rule document (Err e) = wide_policy_in document ≡ Err e
 
 -- the policy, if a table of indices is long enough for it
 abbrev pub ReturnsTabled : WidePolicy → Option WidePolicy → Type 0

@@ -3,7 +3,7 @@
 ghost use Rattle.std.specs.Prelude.{◌≡◌, IfOk, true, false, Err};
 ghost use Rattle.wide_policy.specs.Errors.{needs_indices};
 ghost use Rattle.wide_policy.specs.Reading.{DecidesAsWide, HasWideTree, WidePolicyReturns};
-ghost use Rattle.wide_policy.specs.Returns.{IsTabledOr, ReadsAs, ReturnsPolicy, first_refusal};
+ghost use Rattle.wide_policy.specs.Returns.{IsTabledOr, ReadsWide, ReturnsPolicy, first_refusal};
 
 use crate::laws::carried_policy_decides;
 use crate::left_out::LeftOut;
@@ -82,7 +82,7 @@ fn read_wrapped(
     first: WidePolicyError,
 ) -> Result<WidePolicy, WidePolicyError>
     requires needs { needs_indices first ≡ true }
-    requires reads { ReadsAs false rule document.now (Err first) }
+    requires reads { ReadsWide false rule document.now (Err first) }
     ensures { WidePolicyReturns rule document.now result }
 {
     match read_as(alloc, document, rule, true) {
@@ -135,7 +135,7 @@ fn read_as(
     rule: MessageRule,
     wrapped: bool,
 ) -> Result<WidePolicy, WidePolicyError>
-    ensures { ReadsAs wrapped rule document.now result }
+    ensures { ReadsWide wrapped rule document.now result }
 {
     let parsed = source(alloc, document)?;
     translated(alloc, parsed, rule, wrapped)

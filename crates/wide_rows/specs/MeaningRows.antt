@@ -149,7 +149,7 @@ pub record AccessRowsStand : Type 0 where
 -- ---- operators and literals
 
 -- operators, conditionals, and literals of lists and maps
-pub record OperatorRowsStand : Type 0 where
+pub record WideOperatorRowsStand : Type 0 where
   -- 1 == 1, 1 == 2, 1 != 2, 1 == 1 / 0 and 1 / 0 != 1
   pub equal : WideGives (same (num 1) (num 1)) is_true
   pub unequal : WideGives (same (num 1) (num 2)) is_false

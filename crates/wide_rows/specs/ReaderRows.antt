@@ -146,7 +146,7 @@ pub record WideSequenceRowsStand : Type 0 where
 -- ---- macros
 
 -- macros by name and number of arguments
-pub record FormRowsStand : Type 0 where
+pub record WideFormRowsStand : Type 0 where
   pub all : form_of (codes "all") 2 ≡ Some (form.Fold macro.All)
   pub exists : form_of (codes "exists") 2 ≡ Some (form.Fold macro.Exists)
   pub exists_one : form_of (codes "exists_one") 2 ≡ Some (form.Fold macro.ExistsOne)
@@ -173,7 +173,7 @@ pub record FormRowsStand : Type 0 where
   pub list_with_five : form_of (codes "transformList") 5 ≡ None
 
 -- calls and methods, and what they are read as
-pub record MacroRowsStand : Type 0 where
+pub record WideMacroRowsStand : Type 0 where
   pub fold : method_of a (codes "all") (wides (x ∷ b ∷ [])) ≡ wide.fold macro.All a (codes "x") b
   pub optional_fold : method_of a (codes "optMap") (wides (x ∷ b ∷ [])) ≡ wide.optional_fold optional.Map a (codes "x") b
   pub filter_map : method_of a (codes "map") (wides (x ∷ b ∷ y ∷ [])) ≡ wide.filter_map a (codes "x") b y

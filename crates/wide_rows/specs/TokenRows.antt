@@ -36,7 +36,7 @@ pub record WideTokenRowsStand : Type 0 where
   pub all_are_parts : is_quoted_name (codes ":a") ≡ false
 
 -- whether a minus after a token may be the sign of an int
-pub record SignRowsStand : Type 0 where
+pub record WideSignRowsStand : Type 0 where
   pub in_operator : sign_may_follow (name (codes "in")) ≡ true
   pub other_name : sign_may_follow (name (codes "a")) ≡ false
   pub longer_name : sign_may_follow (name (codes "inn")) ≡ false
@@ -54,7 +54,7 @@ pub record SignRowsStand : Type 0 where
   pub comma : sign_may_follow (mark marks.Comma) ≡ true
 
 -- tokens with their places, and the words of the code's tokens
-pub record WordRowsStand : Type 0 where
+pub record TokenWordRowsStand : Type 0 where
   pub token : lexeme 3 2 (name (codes "ab")) ≡ record { place = 3; end = 5; word = name (codes "ab") }
   pub of_name : word_of (codes "ab") kind.Name ≡ name (codes "ab")
   pub of_quoted : word_of (codes "`ab`") kind.Quoted ≡ quoted (codes "ab")

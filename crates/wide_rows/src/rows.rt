@@ -3,22 +3,22 @@ ghost use Rattle.wide_rows.specs.DecisionRows.{WideDecisionRowsStand};
 ghost use Rattle.wide_rows.specs.MacroMeaningRows.{MacroMeaningRowsStand};
 ghost use Rattle.wide_rows.specs.KindRows.{FittingRowsStand, KindRowsStand};
 ghost use Rattle.wide_rows.specs.MeaningRows.{AccessRowsStand, FunctionRowsStand, NameRowsStand};
-ghost use Rattle.wide_rows.specs.MeaningRows.{OperatorRowsStand, OptionalValueRowsStand};
+ghost use Rattle.wide_rows.specs.MeaningRows.{WideOperatorRowsStand, OptionalValueRowsStand};
 ghost use Rattle.wide_rows.specs.PolicyRows.{WideNamedRowsStand, WideNullRowsStand, WideNullTextRowsStand};
 ghost use Rattle.wide_rows.specs.PolicyRows.{WideValidationRowsStand, WideVersionRowsStand};
 ghost use Rattle.wide_rows.specs.PolicyRows.{RefusedPartRowsStand, TabledRowsStand, TakenRowsStand, WidePartRowsStand};
 ghost use Rattle.wide_rows.specs.PolicyRows.{WideRefusalRowsStand};
-ghost use Rattle.wide_rows.specs.ReaderRows.{FormRowsStand, MacroRowsStand, WideErrorRowsStand, WideFaultRowsStand};
+ghost use Rattle.wide_rows.specs.ReaderRows.{WideFormRowsStand, WideMacroRowsStand, WideErrorRowsStand, WideFaultRowsStand};
 ghost use Rattle.wide_rows.specs.ReaderRows.{WideSequenceRowsStand, WideWordRowsStand};
 ghost use Rattle.wide_rows.specs.TableRows.{WrappingRowsStand};
-ghost use Rattle.wide_rows.specs.TokenRows.{MemoryRowsStand, SignRowsStand, WideTokenRowsStand, WordRowsStand};
+ghost use Rattle.wide_rows.specs.TokenRows.{MemoryRowsStand, WideSignRowsStand, WideTokenRowsStand, TokenWordRowsStand};
 
 /// Gaps, numbers, texts and names at the front of a text, and signs after a token.
 #[tactic(auto, unfolding(crate::proofs::OnLiterals::tokens_on_literals))]
 pub fn token_rows_stand()
     ensures fronts { WideTokenRowsStand }
-    ensures signs { SignRowsStand }
-    ensures words { WordRowsStand }
+    ensures signs { WideSignRowsStand }
+    ensures words { TokenWordRowsStand }
 {}
 
 /// Where an allocation may fail.
@@ -35,8 +35,8 @@ pub fn word_rows_stand()
 /// Macros, their faults, and errors.
 #[tactic(auto, unfolding(crate::proofs::OnLiterals::faults_on_literals))]
 pub fn macro_rows_stand()
-    ensures forms { FormRowsStand }
-    ensures macros { MacroRowsStand }
+    ensures forms { WideFormRowsStand }
+    ensures macros { WideMacroRowsStand }
     ensures faults { WideFaultRowsStand }
     ensures errors { WideErrorRowsStand }
 {}
@@ -51,7 +51,7 @@ pub fn kind_rows_stand()
 #[tactic(auto, unfolding(crate::proofs::OnLiterals::meanings_on_literals))]
 pub fn access_rows_stand()
     ensures accesses { AccessRowsStand }
-    ensures operators { OperatorRowsStand }
+    ensures operators { WideOperatorRowsStand }
 {}
 
 /// Meanings of functions, methods and optional values.

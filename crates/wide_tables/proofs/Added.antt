@@ -10,7 +10,7 @@ use Rattle.value_table.specs.Held.{Held}
 use Rattle.wide_translation.specs.Indexed.{ints_from}
 use Rattle.wide_translation.specs.Placed.{with_tables}
 use Rattle.wide_indices.specs.Tables.{index_tables}
-use Rattle.wide_tables.specs.Building.{HasAdded, Adds}
+use Rattle.wide_tables.specs.Building.{HasAdded, AddsTabled}
 
 at_end : (vs : List ValueOrError) (x : ValueOrError) → slice_get (vs ++ x ∷ []) (length vs) ≡ Some x
 at_end [] x = refl
@@ -92,14 +92,14 @@ module _ (old mid : Held) (m k x : ℕ) (s : List ℕ) (name : HasAdded old mid 
   put_same g h = λ j. put_in (stays_same old mid k m (text s) name g j) (name.there j) (stays_same old mid k x (text s) name h j)
 
   entry_by : (new : Held) (r : Result ℕ AllocError) (o : Option Entries) → IfSome (option_map map o) (λ v. Places mid.values v r new.values) → new.charge ≡ mid.charge
-      → IfSome o (λ w. Adds old new r (map w))
+      → IfSome o (λ w. AddsTabled old new r (map w))
   entry_by new r None f c = tt
   entry_by new (Ok h) (Some w) f c = then_added old mid new k h (text s) (map w) name (appended mid new (map w) h refl f c)
   entry_by new (Err e) (Some w) f c = tt
 
   pub entry_added : (new : Held) (r : Result ℕ AllocError) (es : Entries) (v : Value) → slice_get old.values m ≡ Some (value (map es)) → slice_get old.values x ≡ Some (value v)
       → IfSome (put_in (slice_get mid.values m) (slice_get mid.values k) (slice_get mid.values x)) (λ w. Places mid.values w r new.values) → new.charge ≡ mid.charge
-      → IfSome (inserted s v es) (λ w. Adds old new r (map w))
+      → IfSome (inserted s v es) (λ w. AddsTabled old new r (map w))
   entry_added new r es v e g f c =
       let same : put_in (slice_get mid.values m) (slice_get mid.values k) (slice_get mid.values x) ≡ option_map map (inserted s v es)
       = put_same (is_there _ _ e) (is_there _ _ g) ∙ (λ j. put_in (e j) (Some (value (text s))) (g j)) in
@@ -124,14 +124,14 @@ pub has_result : (o : Option ValueOrError) → IsSome (value_at o) → IsSome o
 has_result None h = absurd (cc)
 has_result (Some x) h = refl
 
-adds_later : (a b c : Held) (g : ℕ) (v w : Value) (r : Result ℕ AllocError) → HasAdded a b g v → Adds b c r w → Adds a c r w
+adds_later : (a b c : Held) (g : ℕ) (v w : Value) (r : Result ℕ AllocError) → HasAdded a b g v → AddsTabled b c r w → AddsTabled a c r w
 adds_later a b c g v w (Ok h) x y = then_added a b c g h v w x y
 adds_later a b c g v w (Err e) x y = tt
 
 -- what a call ensures that puts an entry
 abbrev pub Puts : Held → Held → ℕ → ℕ → List ℕ → Result ℕ AllocError → Type 0
 Puts old new m x s r = (es : Entries) (v : Value) → slice_get old.values m ≡ Some (value (map es)) → slice_get old.values x ≡ Some (value v)
-    → IfSome (inserted s v es) (λ w. Adds old new r (map w))
+    → IfSome (inserted s v es) (λ w. AddsTabled old new r (map w))
 
 -- ---- the map of tables and params
 
@@ -196,7 +196,7 @@ module _ (t0 t1 t2 : Held) (n i e : ℕ) (first : HasAdded t0 t1 i (list (items_
           (params_fit (slice_get t0.values x) (index_tables n) s)
 
       pub all_added : (t5 : Held) (r : Result ℕ AllocError) (x : ℕ) (v : Value) → slice_get t0.values x ≡ Some (value v) → Puts t4 t5 o x (codes "v") r
-          → Adds t0 t5 r (with_tables (index_tables n) v)
+          → AddsTabled t0 t5 r (with_tables (index_tables n) v)
       all_added t5 r x v is last =
           adds_later t0 t4 t5 o outer (with_tables (index_tables n) v) r whole
           (last (entry (codes "t") (index_tables n) no_entries) v outer_added.there (stays t0 t4 o x outer (value v) whole is))

@@ -12,6 +12,6 @@ pub record HasAdded (old new : Held) (h : ℕ) (v : Value) : Type 0 where
   pub charge : new.charge ≡ old.charge
 
 -- the value v is added; or an allocation failed
-abbrev pub Adds : Held → Held → Result ℕ AllocError → Value → Type 0
-Adds old new (Ok h) v = HasAdded old new h v
-Adds old new (Err e) v = ⊤
+abbrev pub AddsTabled : Held → Held → Result ℕ AllocError → Value → Type 0
+AddsTabled old new (Ok h) v = HasAdded old new h v
+AddsTabled old new (Err e) v = ⊤

@@ -71,7 +71,7 @@ maybe_field f =
     ternary (binary And (binary NotEqual (plain.name "object") plain.nothing) (plain.call "has" (plain_field f ∷ [])))
     (plain.list_literal (plain_field f ∷ [])) nothing_in
 
-pub record IndexRowsHold : Type 0 where
+pub record OptionalIndexRowsHold : Type 0 where
   -- object.m[?object.k].hasValue()
   pub any : Becomes (has_value (maybe_item (field "m") (field "k"))) kind.Bool (is_in_any (plain_field "m") (plain_field "k"))
   -- object.spec.args[?0].orValue('')

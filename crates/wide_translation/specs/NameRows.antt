@@ -14,7 +14,7 @@ use Rattle.wide_translation.specs.Written.{Becomes, BecomesInCondition, BecomesW
 use Rattle.wide_translation.specs.Written.{plain_spec, map_a, plain_a, item_of, values_of_a, pairs_of_a, pairs, same, plain_same}
 use Rattle.wide_translation.specs.Written.{nothing_in}
 
-pub record NameRowsHold : Type 0 where
+pub record IterationNameRowsHold : Type 0 where
   -- object.spec.exists(request, request == '-v')
   pub root : Becomes (wide.fold macro.Exists object_spec (codes "request") (same (name "request") (str "-v"))) kind.Bool
       (plain.method plain_spec "exists" (plain.name "celbpf_request" ∷ plain_same (plain.name "celbpf_request") (plain.str "-v") ∷ []))

@@ -11,8 +11,8 @@ use Rattle.wide_meaning.specs.Written.{num, str, name, dot, maybe, maybe_item, h
 use Rattle.wide_meaning.specs.Written.{object_spec}
 use Rattle.wide_translation.specs.Carried.{UnknownName, OptionalValue, UnsignedInt}
 use Rattle.wide_translation.specs.FormRows.{FormRowsHold}
-use Rattle.wide_translation.specs.IndexRows.{IndexRowsHold}
-use Rattle.wide_translation.specs.NameRows.{NameRowsHold}
+use Rattle.wide_translation.specs.IndexRows.{OptionalIndexRowsHold}
+use Rattle.wide_translation.specs.NameRows.{IterationNameRowsHold}
 use Rattle.wide_translation.specs.ListMethodRows.{ListMethodRowsHold}
 use Rattle.wide_translation.specs.Written.{Becomes, BecomesInCondition, BecomesWithVariables, WideIsRefused, plain_spec, plain_field, is_there}
 use Rattle.wide_translation.specs.Written.{field_or_nothing}
@@ -66,10 +66,10 @@ pub record TranslationRowsHold : Type 0 where
       (binary Less (plain.num 2)
       (plain.call "size" (binary Add (plain.dot (plain.name "variables") "l") (plain.list_literal []) ∷ [])))
   -- iteration names of roots
-  pub names : NameRowsHold
+  pub names : IterationNameRowsHold
   -- macros with two names, lists and optional entries
   pub forms : FormRowsHold
   -- computed indices
-  pub indices : IndexRowsHold
+  pub indices : OptionalIndexRowsHold
   -- methods of lists that use the table of indices
   pub list_methods : ListMethodRowsHold
