@@ -5,3 +5,4 @@ pub mod OneOutcome
 pub mod Bytes
 pub mod Compiled
 pub mod Spans
+pub mod Searched

@@ -13,3 +13,4 @@ pub mod Shown
 pub mod Patterns
 pub mod Laws
 pub mod Rows
+pub mod SearchedRows

@@ -2,6 +2,7 @@
 
 ghost use Rattle.pattern_reader.specs.Laws.{ComputesOutcomes, OutcomesAreUnique};
 ghost use Rattle.pattern_reader.specs.Rows.{RefusedPatternRowsHold, TakenRowsHold, WrittenRowsHold};
+ghost use Rattle.pattern_reader.specs.SearchedRows.{SearchedRowsHold};
 
 /// A pattern has one outcome.
 #[tactic(auto, using(crate::proofs::OneOutcome::outcomes_are_unique))]
@@ -28,4 +29,9 @@ pub fn refused_rows_hold()
 /// Texts that are written.
 pub fn written_rows_hold()
     ensures { WrittenRowsHold }
+{}
+
+/// What `regex` searches for in texts that are written.
+pub fn searched_rows_hold()
+    ensures { SearchedRowsHold }
 {}

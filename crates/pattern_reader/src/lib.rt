@@ -26,7 +26,8 @@ mod writer;
 pub use flags::Flags;
 pub use item::Item;
 pub use laws::{
-    computes_outcomes, outcomes_are_unique, refused_rows_hold, taken_rows_hold, written_rows_hold,
+    computes_outcomes, outcomes_are_unique, refused_rows_hold, searched_rows_hold, taken_rows_hold,
+    written_rows_hold,
 };
 pub use pattern::Pattern;
 pub use pattern_error::PatternError;
