@@ -1,5 +1,5 @@
 -- What the values of the code are in terms of the definitions.
-use Rattle.std.specs.Prelude.{◌≡◌, ℕ, ◌+◌, ◌≤◌, List, [], ◌∷◌, ◌++◌, length, drop, reverse, Bool, ◌&&◌, ◌==◌, Option, Some, None, Result, Ok, Err, Vec}
+use Rattle.std.specs.Prelude.{◌≡◌, ℕ, ◌≤◌, List, [], ◌∷◌, ◌++◌, length, drop, reverse, Bool, ◌&&◌, ◌==◌, Option, Some, None, Result, Ok, Err, Vec}
 use Rattle.std.specs.Global.{Global}
 use Rattle.pattern_reader.specs.Items.{next_at, place_after}
 use Rattle.pattern_reader.specs.Tree.{PatternTree}
