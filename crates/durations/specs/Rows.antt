@@ -74,8 +74,8 @@ pub record FineDurationRowsHold : Type 0 where
   pub nanoseconds : duration_of (codes "1.5ns") ≡ Err TooFine
   pub microseconds : duration_of (codes "1.0000us") ≡ Err TooFine
 
--- whole units: those of Go's Duration.Hours, Minutes, Seconds and Milliseconds, cut. Of a whole unit but a nanosecond the
--- sum of doubles is the next unit, if there are many units: 16777216 is 2^24, 4096 is 2^12
+-- whole units: those of Go's Duration.Hours, Minutes, Seconds and Milliseconds, cut. If almost a whole unit is left of many, the
+-- sum of doubles is the next unit: 16777216 is 2^24, 4096 is 2^12
 pub record DurationPartRowsHold : Type 0 where
   pub some_hours : hours (pos 5400000000000) ≡ pos 1
   pub some_minutes : minutes (pos 5400000000000) ≡ pos 90

@@ -23,7 +23,7 @@ pub fn limited(size: u128) -> Result<u128, DurationError>
     }
 }
 
-/// The nanoseconds of a number before and after its point, with so many digits after it.
+/// The nanoseconds of a number before and after its point, with `len` digits after it.
 fn exact(whole: u128, digits: u128, len: usize, unit: u128) -> u128
     requires whole { whole ≤ 2 ^ 63 }
     requires digits { digits < 10 ^ len }

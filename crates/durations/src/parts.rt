@@ -4,7 +4,7 @@ ghost use Rattle.durations.specs.Parts as specs;
 
 use std::num::{nearest_i64_to_f64, saturating_f64_to_i64};
 
-/// The nanoseconds in units of so many nanoseconds, as a sum of two doubles, cut toward 0.
+/// The nanoseconds in units of `unit` nanoseconds, as a sum of two doubles, cut toward 0.
 fn whole(nanoseconds: i64, unit: i64) -> i64
     requires { specs.IsUnit unit }
     ensures { result ≡ specs.whole unit nanoseconds }

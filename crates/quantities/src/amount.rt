@@ -1,6 +1,6 @@
 //! Quantities as exact numbers.
 
-/// An exact quantity. Equal numbers are equal quantities, whatever texts they are from.
+/// An exact quantity. Equal numbers are equal quantities, also if their texts differ.
 #[derive(Clone, Copy, Debug, PartialEq, Eq)]
 pub struct Quantity {
     /// The number in billionths.

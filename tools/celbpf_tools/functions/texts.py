@@ -69,7 +69,7 @@ KINDS: dict[str, Callable[[Numbers], str]] = {"d": duration, "t": timestamp, "v"
 
 
 def texts(numbers: Numbers, count: int) -> Iterator[str]:
-    """So many lines, each the letter of a function, a blank and a text."""
+    """`count` lines, each the letter of a function, a blank and a text."""
     for _ in range(count):
         kind = numbers.pick(list(KINDS))
         text = KINDS[kind](numbers)
