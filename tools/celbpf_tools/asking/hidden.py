@@ -1,8 +1,9 @@
 """Refusals behind one for a table of indices.
 
 A policy that needs such a table is refused as it would be without one, by W5 without a name for the first part that needs
-it, whatever else is wrong. So it is asked too with other macros, in which no index or key is used: a refusal of these is its
-own. If there is none, its table may be too short for a part, which is refused alone.
+it, whatever else is wrong. So it is asked too with other macros, in which no index or key is used, and with forms of the same
+kind for methods that look at the places of a list: a refusal of these is its own. If there is none, its table may be too
+short for a part, which is refused alone.
 """
 
 from typing import Any
@@ -15,6 +16,15 @@ from .wide_splitter import cut
 FORM = " W5"
 # the macro of two names that makes a list
 LIST = "transformList"
+# the methods that look at places: how many operands they have, and a form of these
+METHODS = {
+    "isSorted": (1, "(dyn({0} + []) == null)"),
+    "distinct": (1, "({0} + [])"),
+    "reverse": (1, "({0} + [])"),
+    "slice": (3, "(dyn({1}) == dyn({2}) ? {0} + [] : [])"),
+}
+# those that are refused with their names, unless the receiver is known to be a list
+OF_LISTS = {name: (2, "(dyn({1}) == dyn({0}) ? 0 : 1)") for name in ("indexOf", "lastIndexOf")}
 
 
 def refusal(program: Any, policy: dict[str, Any]) -> str:
@@ -22,7 +32,10 @@ def refusal(program: Any, policy: dict[str, Any]) -> str:
     said = program.refusal(policy)
     if not said.endswith(FORM):
         return said
-    return program.refusal(without_keys(policy)) or said
+    behind = program.refusal(without_keys(policy, METHODS))
+    if behind.endswith(FORM):
+        behind = program.refusal(without_keys(policy, {**METHODS, **OF_LISTS}))
+    return behind or said
 
 
 def of_policy(program: Any, policy: dict[str, Any]) -> str:
@@ -39,11 +52,14 @@ def of_parts(program: Any, policy: dict[str, Any]) -> str:
     return ""
 
 
-def without_keys(value: Any) -> Any:
-    """A document in which no macro of an expression uses an index or a key."""
+def without_keys(value: Any, methods: dict[str, tuple[int, str]]) -> Any:
+    """A document in which no macro of an expression uses an index or a key, and none of these methods is called."""
     if isinstance(value, dict):
-        return {key: text_without_keys(one) if is_text(key, one) else without_keys(one) for key, one in value.items()}
-    return [without_keys(one) for one in value] if isinstance(value, list) else value
+        return {
+            key: text_without_keys(one, methods) if is_text(key, one) else without_keys(one, methods)
+            for key, one in value.items()
+        }
+    return [without_keys(one, methods) for one in value] if isinstance(value, list) else value
 
 
 def is_text(key: str, value: Any) -> bool:
@@ -51,21 +67,24 @@ def is_text(key: str, value: Any) -> bool:
     return key.endswith("xpression") and isinstance(value, str)
 
 
-def text_without_keys(text: str) -> str:
-    """An expression in which the first name of a macro with two is one over null."""
+def text_without_keys(text: str, methods: dict[str, tuple[int, str]]) -> str:
+    """An expression in which the first name of a macro with two is one over null, and these methods are other forms."""
     try:
         whole = cut(text)
     except NotCut:
         return text
-    return text[: whole.begin] + changed(text, whole) + text[whole.end :]
+    return text[: whole.begin] + changed(text, whole, methods) + text[whole.end :]
 
 
-def changed(text: str, piece: Piece) -> str:
-    """The text of a piece, with its macros changed."""
-    parts = [changed(text, part) for part in piece.parts]
+def changed(text: str, piece: Piece, methods: dict[str, tuple[int, str]]) -> str:
+    """The text of a piece, with its macros and these methods changed."""
+    parts = [changed(text, part, methods) for part in piece.parts]
     names = piece.name.split() if piece.kind == "macro" else []
     if len(names) == 2:
         return macro(piece.word, names, parts)
+    count, form = methods.get(piece.name, (0, "")) if piece.form == "method" else (0, "")
+    if form and count == len(parts):
+        return form.format(*(f"(\n{part}\n)" for part in parts))
     made, at = "", piece.begin
     for part, new in zip(piece.parts, parts):
         made, at = made + text[at : part.begin] + new, part.end

@@ -16,7 +16,10 @@ TAKES_OPTIONAL = ("or", "optFlatMap")
 # methods and macros that make one
 MAKES_OPTIONAL, OVER_OPTIONAL = ("or", "first", "last", "of", "none", "ofNonZeroValue"), ("optMap", "optFlatMap")
 # the methods that there are, or are of any value: after a refused call such a method is asked too
-KNOWN = {"size", "startsWith", "endsWith", "contains", "first", "last", "min", "max", *OF_OPTIONALS, *LATER}
+KNOWN = {
+    "size", "startsWith", "endsWith", "contains", "first", "last", "min", "max", "isSorted", "distinct", "reverse", "slice",
+    *OF_OPTIONALS, *LATER,
+}
 # the refusal of a text that is too deep to be cut into pieces
 TOO_DEEP = "W10"
 # what stands for a piece that is refused, so that what is around it is asked

@@ -111,7 +111,8 @@ def form_told(found: Found) -> tuple[str, str]:
     if piece.kind == "macro":
         return "a macro uses the index or key of what may be longer than the documents' lists and maps, as a sum may", INDEX_HINT
     if piece.form == "method":
-        return f"`{piece.name}` looks at the places of what may be longer than the documents' lists and maps, as a sum may", "the same of each part"
+        told = f"`{piece.name}` looks at the places of what may be longer than the documents' lists and maps, as a sum may"
+        return told, "the method of each part, if that says the same"
     return MEANINGS["W5"], ""
 
 

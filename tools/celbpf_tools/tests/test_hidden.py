@@ -13,7 +13,12 @@ TEXTS = [
     ("m.transformList(k, v, k)", "(m).transformList(k0, v, [dyn(null)].map(k,k)[0])"),
     ("[m.transformList(k, v, v, k)]", "[(m).transformList(k0, v, [dyn(null)].all(k,v), [dyn(null)].map(k,k)[0])]"),
     ("l.map(x, x.existsOne(i, y, i == 0))", "l.map(x, (x).existsOne(i0, y, [dyn(null)].all(i,i == 0)))"),
+    ("!l.isSorted()", "!(dyn((l) + []) == null)"), ("l.distinct()[0]", "((l) + [])[0]"),
+    ("l.reverse().reverse()", "((((l) + [])) + [])"), ("l.indexOf(1)", "l.indexOf(1)"), ("l.distinct(1)", "l.distinct(1)"),
+    ("l.slice(a, m.all(k, v, k))", "(dyn((a)) == dyn(((m).all(k0, v, [dyn(null)].all(k,k)))) ? (l) + [] : [])"),
 ]
+# the same of what is known to be a list
+OF_LISTS = [("l.map(x, x).indexOf(o.?a) + 1", "(dyn((o.?a)) == dyn((l.map(x, x))) ? 0 : 1) + 1"), ("l.reverse()", "l.reverse()")]
 # the refusal of a policy, of it without indices and keys, of its validation alone, and what is told
 REFUSALS = [
     ("", "", "", ""), ("K6 validation 0 W4", "", "", "K6 validation 0 W4"), ("K6 variable 0 W5", "K6 validation 0 W4", "", "K6 validation 0 W4"),
@@ -34,7 +39,7 @@ class Program:
     def refusal(self, policy: dict[str, Any]) -> str:
         if policy == POLICY:
             return self.of_whole
-        if policy == hidden.without_keys(POLICY):
+        if policy == hidden.without_keys(POLICY, hidden.METHODS):
             return self.of_changed
         variables = policy["spec"]["variables"]
         return self.of_part if variables[-1]["expression"] == "variables.a" and "k0" not in variables[0]["expression"] else ""
@@ -44,7 +49,12 @@ class Hidden(unittest.TestCase):
     def test_texts(self) -> None:
         for text, due in TEXTS:
             with self.subTest(text):
-                self.assertEqual(hidden.text_without_keys(text).replace("\n", ""), due)
+                self.assertEqual(hidden.text_without_keys(text, hidden.METHODS).replace("\n", ""), due)
+
+    def test_texts_of_lists(self) -> None:
+        for text, due in OF_LISTS:
+            with self.subTest(text):
+                self.assertEqual(hidden.text_without_keys(text, hidden.OF_LISTS).replace("\n", ""), due)
 
     def test_refusals(self) -> None:
         for *said, due in REFUSALS:
