@@ -41,10 +41,12 @@ class Case:
 class Due:
     """The refusal of a case, or a result for each review, with the clauses that the profile defines otherwise.
 
-    A case that is refused for the kind of a plain value has results too, since a gatekeeper may not know the kind.
+    A case that is refused for the kind of a plain value has results too, since a gatekeeper may not know the kind; or else
+    `behind` is why it is refused whatever these kinds are, which may be named first.
     """
 
     refusal: str = ""
+    behind: str = ""
     results: list[Any] = field(default_factory=list)
     apart: list[Any] = field(default_factory=list)
 
@@ -124,7 +126,8 @@ def due(case: Case, clauses: Clauses) -> Due:
         found.refusal = why.text
         try:
             variables, tree = trees(case, False)
-        except Refused:
+        except Refused as other:
+            found.behind = other.text
             return found
     for roots in case.roots:
         own = Clauses()

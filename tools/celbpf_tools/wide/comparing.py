@@ -112,7 +112,7 @@ class Compared:
         ended = run(program, case, due, self.options)
         errors = ended.stderr.decode()
         is_refused = ended.returncode == REFUSED_START
-        if is_refused and due.refusal and names(errors, due.refusal):
+        if is_refused and any(names(errors, one) for one in (due.refusal, due.behind) if one):
             self.refused += 1
         elif is_refused and NOT_YET.search(errors):
             self.not_yet += 1

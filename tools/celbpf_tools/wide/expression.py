@@ -13,13 +13,14 @@ WHOLES = {"condition": ("Bool", "Dyn"), "message": ("String", "Dyn"), "annotatio
 
 @dataclass
 class Scope:
-    """The variables so far: their kinds, and whether their values are known from the documents.
+    """The variables so far: their kinds, whether their values are known from the documents, and whether they are lists.
 
     `knows_plain` is that of `Kinds`.
     """
 
     kinds: dict[str, Any] = field(default_factory=dict)
     known: dict[str, Any] = field(default_factory=dict)
+    lists: dict[str, bool] = field(default_factory=dict)
     knows_plain: bool = True
 
 
@@ -34,7 +35,7 @@ def taken(text: str, scope: Scope, part: str = "value") -> Any:
         refuse("W4", tree.place)
     if given not in WHOLES.get(part, PLAIN):
         refuse("K7" if part == "condition" else "K9", tree.place)
-    reach.check(tree, scope.known)
+    reach.check(tree, scope.known, scope.lists)
     return tree
 
 
@@ -44,6 +45,6 @@ def variable(name: str, expression: str, scope: Scope) -> Any:
     given = kinds.kind_of(tree, scope.kinds, scope.knows_plain)
     if given == "Type":
         refuse("W4", tree.place)
-    scope.known[name] = reach.check(tree, scope.known)
+    scope.known[name], scope.lists[name] = reach.check(tree, scope.known, scope.lists)
     scope.kinds[name] = given
     return tree

@@ -33,7 +33,7 @@ class WideExpressions(ListForms, TypedForms):
         return f".{made}" if self.numbers.one_in(8) and self.widens() and made[0].isalpha() else made
 
     def iteration_name(self) -> str:
-        names = HIDING if self.numbers.one_in(6) and self.widens() else NAMES
+        names = HIDING if self.numbers.one_in(4) and self.widens() else NAMES
         return self.numbers.pick(names)
 
     def macro(self, word: str, kinds: list[Any], room: int) -> str:

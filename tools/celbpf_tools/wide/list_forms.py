@@ -4,7 +4,7 @@ from ..seeded.expressions import MEMBER, SUM, TERNARY
 from .optional_forms import OptionalForms
 
 # names of roots, which an iteration name may hide
-HIDING = ["request", "object", "params", "variables"]
+HIDING = ["request", "object", "oldObject", "params", "namespaceObject", "variables"]
 # ranges of macros with two names whose keys or values are mostly of these kinds
 PAIRS = [
     ("object.metadata.labels", "text", "text"), ("object.spec.limits", "text", "int"),

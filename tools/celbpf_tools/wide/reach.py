@@ -22,21 +22,28 @@ KINDS_WITH_TEXTS = ("int", "string", "list", "map")
 LISTS = ("split", "findAll", "distinct", "reverse", "slice")
 
 
-def is_list(tree: Any) -> bool:
-    """Whether a tree is a list by its form."""
-    if isinstance(tree, Macro):
-        return tree.word in ("map", "filter", "transformList")
-    return isinstance(tree, ListLiteral) or isinstance(tree, Method) and tree.method in LISTS
-
-
 class Reach:
     """What is reached; names are bound to functions that say whether their values are.
 
-    `variables` is a dict from names to whether the values of their expressions are known.
+    `variables` is a dict from names to whether the values of their expressions are known, `lists` one from names to
+    whether they are lists by their form.
     """
 
-    def __init__(self, variables: dict[str, Any]):
+    def __init__(self, variables: dict[str, Any], lists: dict[str, bool]):
         self.variables = variables
+        self.lists = lists
+
+    def is_list(self, tree: Any, names: dict[str, Any]) -> bool:
+        """Whether a tree is a list by its form."""
+        if isinstance(tree, Macro):
+            return tree.word in ("map", "filter", "transformList")
+        if isinstance(tree, Field) and is_variables(tree.operand, names):
+            return self.lists.get(tree.name, False)
+        if isinstance(tree, Ternary):
+            return self.is_list(tree.chosen, names) and self.is_list(tree.other, names)
+        if isinstance(tree, Operation):
+            return tree.sign == "+" and all(self.is_list(one, names) for one in tree.operands)
+        return isinstance(tree, ListLiteral) or isinstance(tree, Method) and tree.method in LISTS
 
     def of(self, tree: Any, names: dict[str, Any]) -> bool:
         """Whether the values of a tree are known from the documents."""
@@ -109,7 +116,7 @@ class Reach:
         tested = format_tested(tree)
         if tested:
             self.demand(tested[1], names, tested[0])
-        elif tree.method in METHODS and not is_list(tree.target):
+        elif tree.method in METHODS and not self.is_list(tree.target, names):
             for part in parts(tree):
                 self.demand(part, names, tree.method)
 
@@ -119,8 +126,8 @@ class Reach:
             self.check(part, self.inner(tree, names))
 
 
-def check(tree: Any, variables: dict[str, Any]) -> bool:
-    """Whether the values of a tree are known; W7 refuses an unknown argument of a function of texts."""
-    reach = Reach(variables)
+def check(tree: Any, variables: dict[str, Any], lists: dict[str, bool]) -> tuple[bool, bool]:
+    """Whether the values of a tree are known, and whether it is a list; W7 refuses an unknown argument of a function of texts."""
+    reach = Reach(variables, lists)
     reach.check(tree, {})
-    return reach.of(tree, {})
+    return reach.of(tree, {}), reach.is_list(tree, {})
