@@ -62,7 +62,8 @@ class Language(Expressions):
     def is_taken(self, form: str) -> bool:
         """Whether a form is taken, in which short names stand for values, and `l` is a variable that is a list."""
         text = whole(form, "object") if form.isidentifier() else form.replace("..", "0")
-        frames = [("", name, None) for name in FREE]
+        # each frame takes room of the compiler's (G1), so the names of the form alone have one
+        frames = [("", name, None) for name in FREE if name in re.findall(r"\w+", text)]
         variables = [{"name": "l", "expression": "[object]"}, {"name": "m", "expression": "{'a': object}"}]
         made = (policies.as_variable(variables, way(text, frames)) for way in (policies.bound, bound_to_optional))
         return any(not self.program.refusal(policy) for policy in made)
