@@ -19,11 +19,6 @@ pub record Decision : Type 0 where
 abbrev pub decision_value : CodeDecision → Decision
 decision_value x = record { rejection = option_map rejection_view x.rejection; uid = string_bytes x.uid }
 
--- the code's result
-abbrev pub decision_view : Result CodeDecision RunError → Result Decision RunError
-decision_view (Ok x) = Ok (decision_value x)
-decision_view (Err e) = Err e
-
 -- the code's result without a uid, as the decision on a request with this uid
 abbrev pub said_view : List ℕ → Result (Option CodeRejection) RunError → Result Decision RunError
 said_view uid (Ok said) = Ok (record { rejection = option_map rejection_view said; uid = uid })

@@ -18,13 +18,12 @@ ghost use Rattle.admission.specs.Deciding.{answer_of, answer_view, is_allowed, A
 ghost use Rattle.admission.specs.Exiting.{exit_state, exit_view, Exits, OfVerdict};
 ghost use Rattle.admission.specs.GatePolicies.{gate_image};
 ghost use Rattle.admission.specs.Lent.{documents_in};
-ghost use Rattle.admission.specs.Decisions.{decision_value, decision_view, said_view, DecidesReview};
+ghost use Rattle.admission.specs.Decisions.{said_view, DecidesReview};
 ghost use Rattle.admission.specs.Findings.{findings_view, FindsReview};
 ghost use Rattle.admission.specs.Standing.{exactly, RunAgrees};
 ghost use Rattle.admission.specs.Starting.{IsFirstState, PlacesRoots, StartsGate};
 ghost use Rattle.admission.specs.declared.language.Language.{Language};
 
-use crate::decision::Decision;
 use crate::limits::Limits;
 use crate::policy_and_image::compile_document;
 use crate::policy_refusal::PolicyRefusal;
@@ -168,21 +167,7 @@ impl Gate {
         Ok(reply(self.alloc, self.told(), &machine, uid)?)
     }
 
-    /// The policy's decision on the request of such a review. See `decide_on`.
-    ///
-    /// # Errors
-    ///
-    /// `ReviewRefused`, `OutOfSteps`, `OverLimit`, `OutOfReads` and `Memory`, as in `decide`.
-    pub fn decision_on(&self, table: Table, uid: &str, limits: Limits) -> Result<Decision, RunError>
-        ensures says { (d : Documents) → IsGateOn d.language d.policy self.now → AreGiven d (held_contents table) uid.now → DecidesReview d limits (decision_view result) }
-        ensures runs { (d : Documents) → IsGateOn d.language d.policy self.now → AreGiven d (held_contents table) uid.now → RunAgrees (exactly self.now.image) d limits (decision_view result) }
-    {
-        let rejection = self.rejection_on(table, limits)?;
-        Ok(with_uid(self.alloc, rejection, uid)?)
-    }
-
-    /// Why the policy rejects the request of such a review, if it does: the rejection in the decision
-    /// of `decision_on`.
+    /// Why the policy rejects the request of such a review, if it does. See `decide_on`.
     ///
     /// # Errors
     ///
@@ -308,14 +293,6 @@ fn rejection_of_verdict(
     ensures { IfOk result (λ said. OfVerdict policy.now machine.now (λ v. option_map rejection_view said ≡ rejection_of policy.now v)) }
 {
     rejection_left(alloc, policy, machine.memory(), machine.values())
-}
-
-/// The decision with this rejection on the request with this uid.
-fn with_uid(alloc: Global, rejection: Option<Rejection>, uid: &str) -> Result<Decision, AllocError>
-    ensures { IfOk result (λ x. decision_value x ≡ record { rejection = option_map rejection_view rejection; uid = uid.now }) }
-{
-    let uid = String::from_str(alloc, uid)?;
-    Ok(Decision { rejection, uid })
 }
 
 /// What the verdict that the program left finds against the request.

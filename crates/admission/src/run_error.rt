@@ -10,6 +10,9 @@ use review_tables::ReviewError;
 use run_ends::NoExit;
 use std::alloc::AllocError;
 use thiserror::Error;
+use verdicts::refusal_codes::{
+    NAMESPACE_OR_PARAMS_REFUSED, OUT_OF_READS, OUT_OF_STEPS, OVER_LIMIT, REVIEW_REFUSED,
+};
 use wide_tables::WrapError;
 
 /// Why a review has no response. The policy is checked first, then the form of the review, the
@@ -54,11 +57,11 @@ impl RunError {
     {
         match self {
             RunError::PolicyRefused(_) => "N1",
-            RunError::ReviewRefused => "N2",
-            RunError::NamespaceOrParamsRefused => "N3",
-            RunError::OutOfSteps => "N4",
-            RunError::OverLimit => "N5",
-            RunError::OutOfReads => "N7",
+            RunError::ReviewRefused => REVIEW_REFUSED,
+            RunError::NamespaceOrParamsRefused => NAMESPACE_OR_PARAMS_REFUSED,
+            RunError::OutOfSteps => OUT_OF_STEPS,
+            RunError::OverLimit => OVER_LIMIT,
+            RunError::OutOfReads => OUT_OF_READS,
             RunError::Memory => "memory",
         }
     }

@@ -11,7 +11,7 @@ use Rattle.admission_match.specs.declared.match_policy.MatchPolicy.TheVariants.{
 use Rattle.admission_match.specs.declared.scope.Scope.{Scope}
 use Rattle.admission_match.specs.declared.scope.Scope.TheVariants.{All, Cluster, Namespaced}
 use Rattle.admission_documents.specs.declared.resource_patterns.ResourcePatterns.{ResourcePatterns as CodePatterns}
-use Rattle.admission_documents.specs.Documents.{field, has_only, list_of, texts_of}
+use Rattle.json_fields.specs.Fields.{field, has_only, list_of, texts_of}
 use Rattle.admission_documents.specs.Selectors.{no_requirements, selector_of}
 
 -- the scope with this name

@@ -9,7 +9,7 @@ use Rattle.admission_match.specs.Matching.{writes}
 use Rattle.admission_match.specs.Requests.{Attributes, GroupVersionResource, attributes_view, resource_view}
 use Rattle.admission_match.specs.declared.operation.Operation.{Operation}
 use Rattle.admission_match.specs.declared.operation.Operation.TheVariants.{Create, Update, Delete, Connect}
-use Rattle.admission_documents.specs.Documents.{field, text_of, text_or_empty_of}
+use Rattle.json_fields.specs.Fields.{field, text_of, text_or_empty_of}
 use Rattle.admission_documents.specs.Selectors.{labels_in, labels_view}
 use Rattle.admission_documents.specs.declared.group_version_kind.GroupVersionKind.{GroupVersionKind as CodeKind}
 use Rattle.admission_documents.specs.declared.request.Request.{Request as CodeRequest}

@@ -10,7 +10,7 @@ use Rattle.admission_match.specs.Rules.{Rule}
 use Rattle.admission_match.specs.declared.match_policy.MatchPolicy.TheVariants.{Exact, Equivalent}
 use Rattle.admission_match.specs.declared.operation.Operation.TheVariants.{Create, Update, Delete, Connect}
 use Rattle.admission_match.specs.declared.scope.Scope.TheVariants.{All, Cluster, Namespaced}
-use Rattle.admission_documents.specs.Documents.{present}
+use Rattle.json_fields.specs.Fields.{present}
 use Rattle.admission_documents.specs.Matching.{match_all, match_constraints_of, match_resources_of}
 use Rattle.admission_documents.specs.Requests.{GroupVersionKind, Request, is_core_namespace, request_in}
 use Rattle.admission_documents.specs.Selectors.{labels_in, no_requirements, selector_of}

@@ -8,7 +8,7 @@ use Rattle.label_selectors.specs.Storing.{checked_label, checked_requirement}
 use Rattle.label_selectors.specs.declared.operator.Operator.{Operator}
 use Rattle.label_selectors.specs.declared.selector_error.SelectorError.{SelectorError}
 use Rattle.admission_documents.specs.declared.object_labels.ObjectLabels.{ObjectLabels as CodeLabels}
-use Rattle.admission_documents.specs.Documents.{cons_if, field, field_of, has_only, list_of, text_of, texts_of}
+use Rattle.json_fields.specs.Fields.{cons_if, field, field_of, has_only, list_of, text_of, texts_of}
 
 -- an entry of matchLabels, if the API server stores it
 abbrev pub stored_label : List ℕ → List ℕ → Result (Unit {0}) SelectorError → Option Label

@@ -2,15 +2,15 @@
 ghost use Rattle.std.specs.Prelude.{◌≡◌, option_map};
 ghost use Rattle.serde_json.specs.View.{view};
 ghost use Rattle.admission_match.specs.Matching.{match_view};
-ghost use Rattle.admission_documents.specs.Documents.{has_only};
+ghost use Rattle.json_fields.specs.Fields.{has_only};
 ghost use Rattle.admission_documents.specs.Fields.{ReadsField};
 ghost use Rattle.admission_documents.specs.Matching.{if_has_rules, match_all, match_constraints_of, match_in, match_keys, match_parts, match_policy_of, match_resources_of};
 
-use crate::documents::{field, has_only_keys};
 use crate::field_error::FieldError;
 use crate::rules::rules;
 use crate::selectors::{empty_selector, selector};
 use admission_match::{MatchPolicy, MatchResources};
+use json_fields::{field, has_only_keys};
 use serde_json::Value;
 use std::alloc::Global;
 

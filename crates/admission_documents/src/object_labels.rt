@@ -1,10 +1,10 @@
 //! The labels of an object.
 ghost use Rattle.std.specs.Prelude.{◌≡◌, option_map};
 ghost use Rattle.serde_json.specs.View.{members_view, view};
-ghost use Rattle.admission_documents.specs.Documents.{field};
+ghost use Rattle.json_fields.specs.Fields.{field};
 ghost use Rattle.admission_documents.specs.Selectors.{are_texts, if_text_map, is_text_map, labels_field, labels_in, labels_view, text_at};
 
-use crate::documents::{field, text};
+use json_fields::{field, field_of, text};
 use label_selectors::Labels;
 use serde_json::{Map, Value};
 
@@ -49,10 +49,7 @@ fn text_at<'a>(value: Option<&'a Value>, key: &str) -> Option<&'a str>
 pub fn labels_field(object: &Value) -> Option<&Value>
     ensures { option_map (λ v. view v.now) result ≡ labels_field (view object.now) }
 {
-    match field(object, "metadata") {
-        Some(metadata) => field(metadata, "labels"),
-        None => None,
-    }
+    field_of(field(object, "metadata"), "labels")
 }
 
 /// The value, if it is a map of texts.

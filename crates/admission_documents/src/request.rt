@@ -4,11 +4,11 @@ ghost use Rattle.serde_json.specs.View.{view};
 ghost use Rattle.admission_documents.specs.Requests.{if_written, labels_if_metadata, object_of, operation_named, operation_of, request_in, request_view};
 ghost use Rattle.admission_documents.specs.Selectors.{labels_view};
 
-use crate::documents::{field, text_or_empty};
 use crate::group_version_kind::GroupVersionKind;
 use crate::object_labels::ObjectLabels;
 use crate::target::Target;
 use admission_match::{Attributes, Operation};
+use json_fields::{field, text_or_empty};
 use serde_json::Value;
 
 /// The request of a review: what matching reads, and its objects. Borrowed from the document.

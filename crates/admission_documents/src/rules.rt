@@ -2,14 +2,15 @@
 ghost use Rattle.std.specs.Prelude.{◌≡◌, map, option_map};
 ghost use Rattle.serde_json.specs.View.{items_view, view};
 ghost use Rattle.admission_match.specs.Rules.{rule_view};
-ghost use Rattle.admission_documents.specs.Documents.{each, has_only};
+ghost use Rattle.json_fields.specs.Fields.{each, has_only};
 ghost use Rattle.admission_documents.specs.Fields.{ReadsField};
 ghost use Rattle.admission_documents.specs.Matching.{patterns_in, patterns_view, rule_in, rule_keys, rule_parts, rules_of, scope_of};
 
-use crate::documents::{field, has_only_keys, texts};
 use crate::field_error::FieldError;
 use crate::resource_patterns::ResourcePatterns;
+use crate::text_lists::texts;
 use admission_match::{Rule, Scope};
+use json_fields::{field, has_only_keys};
 use serde_json::Value;
 use std::alloc::Global;
 

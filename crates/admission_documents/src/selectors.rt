@@ -2,13 +2,14 @@
 ghost use Rattle.std.specs.Prelude.{◌≡◌, map, option_map, string_bytes};
 ghost use Rattle.serde_json.specs.View.{items_view, members_view, view};
 ghost use Rattle.label_selectors.specs.Selectors.{label_view, requirement_view, selector_view};
-ghost use Rattle.admission_documents.specs.Documents.{each};
+ghost use Rattle.json_fields.specs.Fields.{each};
 ghost use Rattle.admission_documents.specs.Fields.{ReadsField};
 ghost use Rattle.label_selectors.specs.Storing.{checked_label, checked_requirement};
 ghost use Rattle.admission_documents.specs.Selectors.{each_label, label_in, match_expressions_of, match_labels_of, no_requirements, requirement_in, requirement_parts, selector_in, selector_of, selector_parts, stored_label, stored_requirement};
 
-use crate::documents::{field, has_only_keys, text, texts};
 use crate::field_error::FieldError;
+use crate::text_lists::texts;
+use json_fields::{field, has_only_keys, text};
 use label_selectors::{Label, LabelSelector, Requirement, check_label, check_requirement};
 use serde_json::{Map, Value};
 use std::alloc::Global;

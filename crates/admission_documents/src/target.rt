@@ -4,9 +4,9 @@ ghost use Rattle.serde_json.specs.View.{view};
 ghost use Rattle.admission_match.specs.Requests.{resource_view};
 ghost use Rattle.admission_documents.specs.Requests.{is_as_sent, is_kind, is_resource, keeps_kind, keeps_resource, keeps_subresource, kind_in, kind_of, kind_view, resource_in, resource_of, target_in, target_parts, target_view};
 
-use crate::documents::{field, text, text_or_empty};
 use crate::group_version_kind::GroupVersionKind;
 use admission_match::GroupVersionResource;
+use json_fields::{field, text, text_or_empty};
 use serde_json::Value;
 
 /// The kind, resource and subresource of a request.

@@ -3,9 +3,9 @@
 use Rattle.std.specs.Prelude.{◌≡◌, true, false, [], ◌∷◌, Some, None, Ok, Err, codes}
 use Prim.Native.String.{String}
 use Rattle.serde_json.specs.Data as json
-use Rattle.policy_glue.specs.Documents.{each, has_only, is_object_or_absent, keys_within, list_in, optional_list_in}
-use Rattle.policy_glue.specs.Documents.{optional_text_of, text_of}
-use Rattle.policy_glue.specs.Documents.{text_or_empty_of}
+use Rattle.json_fields.specs.Fields.{each, has_only, is_object_or_absent, keys_within, list_in, list_of}
+use Rattle.json_fields.specs.Fields.{optional_text_of, text_of}
+use Rattle.json_fields.specs.Fields.{text_or_empty_of}
 use Rattle.policy_glue.specs.Policy.{NamedExpression, part_limit, reason_code, reason_name}
 use Rattle.policy_glue.specs.Reading.{allows, are_distinct, failure_in, has_broken_message, has_line_break}
 use Rattle.policy_glue.specs.Reading.{has_spec_form, has_top_form, judged}
@@ -53,10 +53,10 @@ pub record DocumentRowsStand : Type 0 where
   pub list : list_in (λ d. text_of (Some d)) (Some (json.array (json.item (json.string (codes "a")) json.no_items))) ≡ Some (codes "a" ∷ [])
   pub no_list : list_in (λ d. text_of (Some d)) None ≡ None
   pub object_for_list : list_in (λ d. text_of (Some d)) (Some a) ≡ None
-  pub optional_list : optional_list_in (λ d. text_of (Some d)) (Some (json.array (json.item (json.string (codes "a")) json.no_items)))
+  pub optional_list : list_of (λ d. text_of (Some d)) (Some (json.array (json.item (json.string (codes "a")) json.no_items)))
       ≡ Some (codes "a" ∷ [])
-  pub no_optional_list : optional_list_in (λ d. text_of (Some d)) None ≡ Some []
-  pub object_for_optional_list : optional_list_in (λ d. text_of (Some d)) (Some a) ≡ None
+  pub no_optional_list : list_of (λ d. text_of (Some d)) None ≡ Some []
+  pub object_for_optional_list : list_of (λ d. text_of (Some d)) (Some a) ≡ None
 
 -- a condition or variable with this name
 abbrev pub named : String → NamedExpression

@@ -30,6 +30,15 @@ pub fn refusal_line(alloc: Global, refusal: Refusal) -> RefusalLine
     line
 }
 
+/// The text of a refusal, without the rest of its line. Nothing is allocated.
+pub(crate) fn refusal_text(alloc: Global, refusal: Refusal) -> RefusalLine
+    ensures { result ≡ refusal_text refusal }
+{
+    let mut text = RefusalLine::new(alloc);
+    text.push_refusal(refusal);
+    text
+}
+
 /// A line in a buffer of 80 bytes. The longest is 73 bytes: a refused validation, with 20 digits
 /// each for its index and for the place in its text.
 #[derive(Drop)]

@@ -1,9 +1,9 @@
 //! The line of a policy in the wide language that is refused, which may name what the policy names.
-ghost use Rattle.std.specs.Prelude.{◌≡◌, ◌-◌, ◌++◌, ◌≤◌, codes, decimal, drop, length, take, IfOk, OnOk};
+ghost use Rattle.std.specs.Prelude.{◌≡◌, ◌++◌, codes, decimal, IfOk, OnOk};
 ghost use Rattle.cli.specs.Refusals.{policy_text};
 ghost use Rattle.cli.specs.WideTexts.{name_text, named_text, part_text, place_text, wide_cause_text, wide_line, wide_policy_text, wide_text};
 
-use crate::lines::refusal_line;
+use crate::lines::refusal_text;
 use crate::refusal::Refusal;
 use admission::{PolicyRefusal, WideRefusal};
 use itoa::Buffer;
@@ -30,17 +30,9 @@ pub fn add_policy(
 ) -> Result<(), AllocError>
     ensures { OnOk result (line.new.items ≡ line.old.items ++ policy_text refusal) }
 {
-    let told = refusal_line(alloc, Refusal::Policy(refusal));
-    line.extend_from_slice(inner(told.as_slice()))?;
+    let told = refusal_text(alloc, Refusal::Policy(refusal));
+    line.extend_from_slice(told.as_slice())?;
     Ok(())
-}
-
-/// The text of a refusal in its line.
-fn inner(line: &[u8]) -> &[u8]
-    requires { 9 ≤ length line.now }
-    ensures { result.now ≡ take (length line.now - 9) (drop 8 line.now) }
-{
-    &line[8..line.len() - 1]
 }
 
 /// Adds why a policy in the wide language gives no image.

@@ -2,7 +2,7 @@
 use Rattle.std.specs.Fmt.{digits}
 use Rattle.std.specs.Prelude.{⊤}
 use Rattle.admission_documents.proofs.OnLiterals.{documents_on_literals}
-use Rattle.policy_glue.specs.Response.{review_tree}
+use Rattle.verdicts.specs.Response.{review_tree}
 use Rattle.cluster_plan.specs.Steps.{absent_text}
 use Rattle.cluster_response.specs.Annotations.{annotation_text, failure_text, place_text, text_field}
 use Rattle.cluster_response.specs.Events.{configured, warning_text}

@@ -13,8 +13,8 @@ pub use Rattle.serde_json.specs.Written.{compact_text, has_float, items_have_flo
 pub use Rattle.serde_json.specs.declared.value.Value.{Value}
 pub use Rattle.admission_documents.specs.Requests.{Request, request_view}
 pub use Rattle.cluster_state.specs.Bindings.{binding_view}
-pub use Rattle.policy_glue.specs.Findings.{finding_view}
-unfoldable pub use Rattle.policy_glue.specs.Response.{review_tree}
+pub use Rattle.verdicts.specs.Findings.{finding_view}
+unfoldable pub use Rattle.verdicts.specs.Response.{review_tree}
 pub use Rattle.cluster_response.specs.Annotations.{action_tree, html_escape}
 pub use Rattle.cluster_response.specs.Events.{ClusterAudit, ClusterDenial, Event, EventSummary, KeepsEvents, Undecided, action_event, configuration_event, denies, warns, audits, refuses, ends, all_undecided, each_once, events_view, finding_events, findings_events, first_audit, first_denial, has_end, is_closed, summary_of, told_undecided, warning_texts}
 pub use Rattle.cluster_response.specs.Firsts.{first_of, preferred, told_of}

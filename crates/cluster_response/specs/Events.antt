@@ -4,9 +4,9 @@ use Rattle.std.specs.List.{concat, flat_map}
 use Rattle.cluster_state.specs.Bindings.{Binding}
 use Rattle.cluster_state.specs.declared.action.Action.{Action}
 use Rattle.cluster_state.specs.declared.action.Action.TheVariants.{Deny, Warn, Audit}
-use Rattle.policy_glue.specs.Findings.{PolicyFinding}
-use Rattle.policy_glue.specs.declared.reason.Reason.{Reason}
-use Rattle.policy_glue.specs.declared.reason.Reason.TheVariants.{Invalid}
+use Rattle.verdicts.specs.Findings.{PolicyFinding}
+use Rattle.verdicts.specs.declared.reason.Reason.{Reason}
+use Rattle.verdicts.specs.declared.reason.Reason.TheVariants.{Invalid}
 use Rattle.cluster_response.specs.Firsts.{told_of}
 use Rattle.cluster_response.specs.declared.audit.Audit.{Audit as CodeAudit}
 use Rattle.cluster_response.specs.declared.cluster_refusal.ClusterRefusal.{ClusterRefusal}

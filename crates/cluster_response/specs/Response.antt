@@ -5,7 +5,7 @@ use Rattle.serde_json.specs.Data as json
 use Rattle.serde_json.specs.View.{items_of}
 use Rattle.serde_json.specs.Written.{compact_text}
 use Rattle.admission_documents.specs.Requests.{Request}
-use Rattle.policy_glue.specs.Response.{review_tree, status_tree}
+use Rattle.verdicts.specs.Response.{review_tree, status_tree}
 use Rattle.cluster_plan.specs.Steps.{absent_text}
 use Rattle.cluster_response.specs.Annotations.{annotation_text}
 use Rattle.cluster_response.specs.Events.{ClusterAudit, ClusterDenial, Event, EventSummary, Undecided, summary_of}

@@ -9,9 +9,9 @@ use Rattle.admission_match.specs.declared.operation.Operation.TheVariants.{Creat
 use Rattle.cluster_state.specs.Bindings.{Binding}
 use Rattle.cluster_state.specs.declared.action.Action.{Action}
 use Rattle.cluster_state.specs.declared.action.Action.TheVariants.{Deny, Warn, Audit}
-use Rattle.policy_glue.specs.Findings.{PolicyFinding}
-use Rattle.policy_glue.specs.declared.reason.Reason.{Reason}
-use Rattle.policy_glue.specs.declared.reason.Reason.TheVariants.{Forbidden, Invalid}
+use Rattle.verdicts.specs.Findings.{PolicyFinding}
+use Rattle.verdicts.specs.declared.reason.Reason.{Reason}
+use Rattle.verdicts.specs.declared.reason.Reason.TheVariants.{Forbidden, Invalid}
 use Rattle.cluster_plan.specs.Quotes.{go_quoted}
 use Rattle.cluster_response.specs.Annotations.{html_safe}
 use Rattle.cluster_response.specs.Events.{Event, refuses, ends, configuration_event, findings_events}

@@ -2,8 +2,8 @@
 ghost use Rattle.std.specs.Prelude.{◌≡◌, IfOk, string_bytes};
 
 use cluster_state::{Action, Binding};
-use policy_glue::Finding;
 use std::alloc::{AllocError, Global};
+use verdicts::Finding;
 
 /// A failure that a binding audits.
 #[derive(Debug, Drop)]

@@ -1,8 +1,8 @@
 //! Denials.
 ghost use Rattle.std.specs.Prelude.{◌≡◌, IfOk, option_map, string_bytes};
 
-use policy_glue::Reason;
 use std::alloc::{AllocError, Global};
+use verdicts::Reason;
 
 /// A denial of a request by a policy.
 #[derive(Debug, Drop)]

@@ -1,7 +1,7 @@
 //! What counts of the events of a dispatch.
 ghost use Rattle.std.specs.Prelude.{◌≡◌, ◌++◌, List, [], ◌∷◌, IfOk, OnOk, Some, map, option_map, string_bytes, true};
 ghost use Rattle.cluster_state.specs.Bindings.{binding_view};
-ghost use Rattle.policy_glue.specs.Findings.{finding_view};
+ghost use Rattle.verdicts.specs.Findings.{finding_view};
 ghost use Rattle.cluster_response.specs.Events.{Event, KeepsEvents, action_event, audit_view, audits, configuration_event};
 ghost use Rattle.cluster_response.specs.Events.{configured, denial_view, denies, ends, events_view, finding_events};
 ghost use Rattle.cluster_response.specs.Events.{findings_events, refuses, summary_of, undecided_view, warning_text, warns};
@@ -15,8 +15,8 @@ use crate::denial::Denial;
 use crate::undecided::Undecided;
 use cluster_state::{Action, Binding};
 use indexmap::IndexSet;
-use policy_glue::{Finding, Reason};
 use std::alloc::{AllocError, Global};
+use verdicts::{Finding, Reason};
 
 /// What counts of the events of a dispatch: the first denial and failure that is audited, the
 /// warnings, and the policy that is told of those that do not decide. If an allocation fails, events

@@ -1,10 +1,11 @@
 //! Objects that are built member by member.
-ghost use Rattle.std.specs.Prelude.{◌≡◌, IfOk, OnOk, option_map};
+ghost use Rattle.std.specs.Prelude.{◌≡◌, IfOk, option_map};
 ghost use Rattle.serde_json.specs.Data as json;
 ghost use Rattle.serde_json.specs.View.{members_view, view};
-ghost use Rattle.cluster_response.specs.Members.{put_if};
+ghost use Rattle.json_fields.specs.Members.{put_if};
 
-use serde_json::{Map, Value, json, put};
+use json_fields::put_if;
+use serde_json::{Map, Value, json};
 use std::alloc::{AllocError, Global};
 
 /// The members of an object, unless an allocation failed.
@@ -34,13 +35,7 @@ pub(crate) fn with_member(
         → IfOk result (λ m. members_view m.entries ≡ put_if name.now (option_map view value) ms) }
 {
     match members {
-        Ok(mut members) => match put_if(&mut members, alloc, name, value) {
-            Ok(()) => Ok(members),
-            Err(error) => {
-                drop(members);
-                Err(error)
-            }
-        },
+        Ok(members) => put_if(alloc, members, name, value),
         Err(error) => {
             drop(value);
             Err(error)
@@ -78,20 +73,5 @@ pub(crate) fn with_number(alloc: Global, members: Members, name: &str, number: u
     match json!(in alloc; number) {
         Ok(value) => with_member(alloc, members, name, Some(value)),
         Err(error) => Err(error),
-    }
-}
-
-fn put_if(
-    members: &mut Map<String, Value>,
-    alloc: Global,
-    name: &str,
-    value: Option<Value>,
-) -> Result<(), AllocError>
-    ensures { OnOk result (members_view members.new.entries
-        ≡ put_if name.now (option_map view value) (members_view members.old.entries)) }
-{
-    match value {
-        Some(value) => put(members, alloc, name, value),
-        None => Ok(()),
     }
 }

@@ -5,8 +5,9 @@ ghost use Rattle.admission_documents.specs.Requests.{request_view};
 ghost use Rattle.admission_match.specs.Requests.{resource_view};
 ghost use Rattle.cluster_response.specs.Messages.{name_given, name_in_metadata, name_in_object, or_if_absent, or_text, shown_name, shown_resource};
 
-use admission_documents::{Request, field, text};
+use admission_documents::Request;
 use admission_match::GroupVersionResource;
+use json_fields::{field, text};
 use serde_json::Value;
 use std::alloc::{AllocError, Global};
 

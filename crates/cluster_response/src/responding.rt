@@ -3,7 +3,7 @@ ghost use Rattle.std.specs.Prelude.{◌≡◌, [], IfOk, List, map, option_map, 
 ghost use Rattle.serde_json.specs.Data as json;
 ghost use Rattle.serde_json.specs.View.{view};
 ghost use Rattle.admission_documents.specs.Requests.{request_view};
-ghost use Rattle.policy_glue.specs.Response.{review_tree, status_tree};
+ghost use Rattle.verdicts.specs.Response.{review_tree, status_tree};
 ghost use Rattle.cluster_response.specs.Events.{Event, KeepsEvents, audit_view, denial_view, events_view, summary_of, undecided_view};
 ghost use Rattle.cluster_response.specs.Members.{status_object};
 ghost use Rattle.cluster_response.specs.Response.{annotations_tree, answer_tree, cluster_response, decision_from, decision_tree, denial_status, if_texts, not_found_status, status_of, summary_response, texts_tree, undecided_tree};
@@ -17,9 +17,9 @@ use crate::messages::denied_message;
 use crate::undecided::Undecided;
 use admission_documents::Request;
 use cluster_plan::absent_text;
-use policy_glue::{Reason, response_text};
 use serde_json::{Value, json};
 use std::alloc::{AllocError, Global};
+use verdicts::{Reason, response_text};
 
 /// The text of the answer to a request with this uid, by the events of its dispatch: the response
 /// (AdmissionReview, `admission.k8s.io/v1`), or which policy does not decide and why. The end
@@ -54,7 +54,7 @@ fn summary_text(
 }
 
 /// The text if there are no events.
-#[tactic(auto, unfolding(policy_glue::specs::Rejections::response_text))]
+#[tactic(auto, unfolding(verdicts::specs::Rejections::response_text))]
 fn allowed_text(alloc: Global, _request: &Request<'_>, uid: &str) -> Result<Vec<u8>, AllocError>
     ensures { IfOk result (λ bytes. bytes.items ≡ summary_response (request_view _request.now) uid.now (summary_of [])) }
 {
@@ -233,7 +233,7 @@ fn decision(
     object(with_member(alloc, named, "warnings", warnings))
 }
 
-#[tactic(auto, unfolding(policy_glue::specs::Response::review_tree))]
+#[tactic(auto, unfolding(verdicts::specs::Response::review_tree))]
 fn review(alloc: Global, response: Value) -> Result<Value, AllocError>
     ensures { IfOk result (λ v. view v ≡ review_tree (view response)) }
 {

@@ -1,5 +1,5 @@
 -- The program of a policy as it is emitted.
-use Rattle.policy_code.proofs.Prelude.{◌≡◌, ℕ, zero, suc, ◌+◌, ◌-◌, ◌<◌, ◌≤◌, Bool, true, false, List, [], ◌∷◌, ◌++◌, length, map, take, drop, drop_more, get_or, Option, Some, None, Result, Ok, OnOk, IfOk, refl, sym, ap, ◌∙◌, subst, arith, append_assoc, length-append, append-nil, ◌*◌, IsErrOf, take-append_seam, if◌then◌else◌, slice_get, slice_index_or, slice_set, option_map, fold, length-map, slice_get-map, slice_get_read, and_from, and_parts, nat_le, leb-true, le-leb, cases_lt, le-ltb, lt-ltb, slot_count, spelling, Insn, Tree, Core, expanded, core_view, CodeCore, depth, need, nodes, Declaration, declared, depths_of, scope_of, typing as type_of, code_at, has_room, with_counted, with_expression, passed, Emitted, with_insn_at, with_nodes, with_piece, without_code, no_code, HasTooManyTexts, IsTooLong, slot_spellings, routines_of, whole_short, size, slots, spellings, length-insn_slots, slots-append, size-append, size-cons, validation_expanded, validation_trees, variable_expanded, IsChecked, depth_in, scope_after, type_or_any, with_variable as with_declared, FitInOrder, MayFit, with_condition, with_conditions, with_decided, with_result, with_validation, with_validations, with_variables, with_way, emitted, denial_code, leave_error, message_tail, condition_tail, conditions_code, decided_code, decided_tail, if_true, message_code, outcome_tail, policy_code, result_code, routines_code, validation_code, validations_code, AreConditions, AreValidations, AreVariables, ValidationTree, VariableTree, PolicyTree, CheckedValidation, FailurePolicy, sum_by, fold-append, sum_by-cons, saturated, with_texts, joined, message_nodes, part_nodes, policy_nodes, policy_texts, validation_nodes, validation_texts, limit_passed, Laid, after_condition, after_conditions, after_variables, before_message, condition_codes, laid_conditions, laid_routines, message_codes, nothing_laid, texts_with, tree_code, validation_codes, variable_code, variable_codes, with_routine, with_slots, with_tree, with_message as with_message_laid, program_of, decided_slots, Exit, slot_spellings-append, slots_spelled, Checked, TooManyNodes, TooManyTextBytes, part_slot_limit, code_limit, node_limit, jump_limit, word_limit, variable_depth_limit, slot_limit, slots_per_node}
+use Rattle.policy_code.proofs.Prelude.{◌≡◌, ℕ, zero, suc, ◌+◌, ◌-◌, ◌<◌, ◌≤◌, Bool, true, false, List, [], ◌∷◌, ◌++◌, length, map, take, drop, drop_more, get_or, Option, Some, None, Ok, refl, sym, ap, ◌∙◌, subst, arith, append_assoc, length-append, append-nil, ◌*◌, IsErrOf, take-append_seam, if◌then◌else◌, slice_get, slice_index_or, slice_set, option_map, fold, length-map, slice_get-map, slice_get_read, and_from, and_parts, nat_le, leb-true, le-leb, cases_lt, le-ltb, lt-ltb, slot_count, spelling, Insn, Tree, Core, expanded, core_view, CodeCore, depth, need, nodes, Declaration, declared, depths_of, scope_of, typing as type_of, code_at, has_room, with_counted, with_expression, passed, Emitted, with_insn_at, with_nodes, with_piece, without_code, no_code, HasTooManyTexts, IsTooLong, slot_spellings, routines_of, whole_short, size, slots, spellings, slots-append, size-append, size-cons, validation_expanded, validation_trees, variable_expanded, IsChecked, depth_in, scope_after, type_or_any, with_variable as with_declared, FitInOrder, MayFit, with_condition, with_conditions, with_decided, with_result, with_validation, with_validations, with_variables, with_way, emitted, denial_code, leave_error, message_tail, condition_tail, conditions_code, decided_code, decided_tail, if_true, message_code, outcome_tail, policy_code, result_code, routines_code, validation_code, validations_code, AreConditions, AreValidations, AreVariables, ValidationTree, VariableTree, PolicyTree, CheckedValidation, FailurePolicy, sum_by, fold-append, sum_by-cons, saturated, with_texts, joined, message_nodes, part_nodes, policy_nodes, policy_texts, validation_nodes, validation_texts, limit_passed, Laid, after_condition, after_conditions, after_variables, before_message, condition_codes, laid_conditions, laid_routines, message_codes, nothing_laid, texts_with, tree_code, validation_codes, variable_code, variable_codes, with_routine, with_slots, with_tree, with_message as with_message_laid, program_of, decided_slots, Exit, slot_spellings-append, slots_spelled, Checked, TooManyNodes, TooManyTextBytes, part_slot_limit, code_limit, node_limit, jump_limit, word_limit, variable_depth_limit, slot_limit, slots_per_node}
 use Rattle.std.proofs.Common.{inl, inr, ◌⊎◌}
 use Rattle.codegen.specs.Added.{with_variable}
 use Rattle.policy_code.specs.Emission.{FitsFrame, with_message}

@@ -111,8 +111,8 @@ pub use Rattle.policy_code.specs.Emission.{FitInOrder, MayFit, emitted, with_con
 pub use Rattle.policy_code.specs.Emission.{with_conditions, with_decided, with_result, with_validation}
 pub use Rattle.policy_code.specs.Emission.{with_validations, with_variables, with_way}
 pub use Rattle.policy_code.specs.Evaluation.{condition_values, environment_with, validation_value, values_of, with_value}
-pub use Rattle.policy_code.specs.Layout.{IsLayout, IsMessageWord, finding_word}
-pub use Rattle.policy_code.specs.Layout.{first_message, first_result, message_in, outcome_word, truth_word}
+pub use Rattle.verdicts.specs.Layout.{IsLayout, IsMessageWord, finding_word}
+pub use Rattle.verdicts.specs.Layout.{first_message, first_result, message_in, outcome_word, truth_word}
 pub use Rattle.policy_code.specs.Limits.{part_nodes, validation_nodes, validation_tree_texts, tree_texts, part_limit}
 pub use Rattle.policy_code.proofs.PartTexts.{condition_texts, message_nodes, message_texts, validation_texts, variable_texts}
 pub use Rattle.policy_code.specs.Program.{decided_code, decided_tail, error_way, if_true, leave_error, message_code}
@@ -133,20 +133,20 @@ pub use Rattle.policy_code.specs.ProgramTrees.{AreConditions, AreValidations, Ar
 pub use Rattle.policy_code.specs.ProgramTrees.{IsEmittableMessage, ProgramDecides, ProgramIsCode, ProgramIsShort}
 pub use Rattle.policy_code.specs.ProgramTrees.{ProgramStops}
 pub use Rattle.policy_code.specs.Trees.{PolicyTree, ValidationTree, VariableTree}
-pub use Rattle.policy_code.specs.Verdict.{Errs, Fails, Finding, Holds}
-pub use Rattle.policy_code.specs.declared.outcome.Outcome.{Outcome}
-pub use Rattle.policy_code.specs.declared.outcome.Outcome.TheVariants.{Admitted, Denied, Skipped}
-pub use Rattle.policy_code.specs.Verdict.{CheckResult, Verdict, decided, decided_before, denies, finding_of}
-pub use Rattle.policy_code.specs.Verdict.{is_denial, is_failed, is_held, judged_by, truth_of, undecided}
+pub use Rattle.verdicts.specs.Verdict.{Errs, Fails, Finding, Holds}
+pub use Rattle.verdicts.specs.declared.outcome.Outcome.{Outcome}
+pub use Rattle.verdicts.specs.declared.outcome.Outcome.TheVariants.{Admitted, Denied, Skipped}
+pub use Rattle.verdicts.specs.Verdict.{CheckResult, Verdict, decided, decided_before, denies, finding_of}
+pub use Rattle.verdicts.specs.Verdict.{is_denial, is_failed, is_held, judged_by, truth_of, undecided}
 pub use Rattle.policy_code.specs.declared.checked.Checked.{Checked}
 pub use Rattle.policy_code.specs.declared.checked_validation.CheckedValidation.{CheckedValidation}
 pub use Rattle.policy_code.specs.declared.program_error.ProgramError.TheVariants.{TooManyNodes, TooManyTextBytes}
-pub use Rattle.policy_code.specs.declared.failure_policy.FailurePolicy.{FailurePolicy}
+pub use Rattle.verdicts.specs.declared.failure_policy.FailurePolicy.{FailurePolicy}
 unfoldable pub use Rattle.policy_code.specs.Budget.{policy_cost}
 unfoldable pub use Rattle.policy_code.specs.Evaluation.{decision_of}
 unfoldable pub use Rattle.policy_code.specs.Limits.{policy_nodes, policy_texts}
 unfoldable pub use Rattle.policy_code.specs.Program.{condition_tail, conditions_code, denial_code, message_tail}
 unfoldable pub use Rattle.policy_code.specs.Program.{outcome_tail, policy_code, validations_code}
 unfoldable pub use Rattle.policy_code.specs.ProgramCode.{program_of}
-unfoldable pub use Rattle.policy_code.specs.Verdict.{verdict_of}
+unfoldable pub use Rattle.verdicts.specs.Verdict.{verdict_of}
 pub use Rattle.policy_code.specs.Limits.{limit_passed}

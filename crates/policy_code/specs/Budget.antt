@@ -7,8 +7,8 @@ use Rattle.cel_macros.specs.Meaning.{meaning}
 use Rattle.tree_code.specs.Cost.{Cost, ◌and◌, nothing, cost, one_visit}
 use Rattle.policy_code.specs.Evaluation.{condition_values, environment_with, values_of, with_value}
 use Rattle.policy_code.specs.Trees.{VariableTree, ValidationTree, PolicyTree}
-use Rattle.policy_code.specs.Verdict.{decided_before, denies, truth_of}
-use Rattle.policy_code.specs.declared.failure_policy.FailurePolicy.{FailurePolicy}
+use Rattle.verdicts.specs.Verdict.{decided_before, denies, truth_of}
+use Rattle.verdicts.specs.declared.failure_policy.FailurePolicy.{FailurePolicy}
 
 -- a part in this environment: its visit and the cost of its expression
 abbrev pub part_cost : Environment → Tree → Cost

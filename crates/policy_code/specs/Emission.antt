@@ -19,7 +19,7 @@ use Rattle.policy_code.specs.ProgramTrees.{AreConditions, AreValidations, AreVar
 use Rattle.policy_code.specs.Trees.{PolicyTree}
 use Rattle.policy_code.specs.declared.checked.Checked.{Checked}
 use Rattle.policy_code.specs.declared.program_error.ProgramError.{ProgramError, TheVariants.Memory}
-use Rattle.policy_code.specs.declared.failure_policy.FailurePolicy.{FailurePolicy}
+use Rattle.verdicts.specs.declared.failure_policy.FailurePolicy.{FailurePolicy}
 
 -- ---- each part
 

@@ -5,8 +5,8 @@ use Rattle.cel_reader.specs.Tree.{Tree}
 use Rattle.cel_macros.specs.Environment.{Environment, Roots}
 use Rattle.cel_macros.specs.Meaning.{meaning}
 use Rattle.policy_code.specs.Trees.{VariableTree, ValidationTree, PolicyTree}
-use Rattle.policy_code.specs.Verdict.{Verdict, verdict_of}
-use Rattle.policy_code.specs.declared.failure_policy.FailurePolicy.{FailurePolicy}
+use Rattle.verdicts.specs.Verdict.{Verdict, verdict_of}
+use Rattle.verdicts.specs.declared.failure_policy.FailurePolicy.{FailurePolicy}
 
 -- the environment outside all macros: it has names for the roots and for these variables
 abbrev pub environment_with : Roots → List (List ℕ × ValueOrError) → Environment

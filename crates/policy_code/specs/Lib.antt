@@ -4,7 +4,6 @@ pub mod Budget
 pub mod Checked
 pub mod Emission
 pub mod Evaluation
-pub mod Layout
 pub mod Limits
 pub mod Program
 pub mod ProgramCode
@@ -13,4 +12,5 @@ pub mod ProgramParts
 pub mod ProgramTrees
 pub mod Scopes
 pub mod Trees
-pub mod Verdict
+pub use Rattle.verdicts.specs.Layout
+pub use Rattle.verdicts.specs.Verdict

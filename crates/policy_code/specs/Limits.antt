@@ -10,12 +10,9 @@ use Rattle.cel_macros.specs.CoreTree.{expanded}
 use Rattle.cel_measures.specs.Measures.{nodes}
 use Rattle.tree_code.specs.Constants.{joined, with_text}
 use Rattle.tree_code.specs.Code.Expressions.{texts_of}
+pub use Rattle.verdicts.specs.Policy.{part_limit}
 use Rattle.policy_code.specs.Trees.{ValidationTree, PolicyTree}
 use Rattle.policy_code.specs.declared.program_error.ProgramError.{ProgramError, TheVariants.TooManyNodes, TheVariants.TooManyTextBytes}
-
--- the largest number of conditions, of variables and of validations; a verdict has a word for each validation
-abbrev pub part_limit : ℕ
-part_limit = 64
 
 -- ---- nodes: one for the policy, and for each part one and those of its expression
 

@@ -13,10 +13,10 @@ use Rattle.expression_code.specs.Instructions.{mov_reg, lddw, mov_imm, ja, jump_
 use Rattle.expression_code.specs.Pieces.{size}
 use Rattle.expression_code.specs.Words.{verdict_address}
 use Rattle.tree_code.specs.Code.Whole.{passed}
-use Rattle.policy_code.specs.Layout.{first_message, outcome_word, truth_word}
-use Rattle.policy_code.specs.Verdict.{Fails, Errs, undecided}
-use Rattle.policy_code.specs.declared.outcome.Outcome.{TheVariants.Skipped, TheVariants.Denied, TheVariants.Admitted}
-use Rattle.policy_code.specs.declared.failure_policy.FailurePolicy.{FailurePolicy, TheVariants.Fail, TheVariants.Ignore}
+use Rattle.verdicts.specs.Layout.{first_message, outcome_word, truth_word}
+use Rattle.verdicts.specs.Verdict.{Fails, Errs, undecided}
+use Rattle.verdicts.specs.declared.outcome.Outcome.{TheVariants.Skipped, TheVariants.Denied, TheVariants.Admitted}
+use Rattle.verdicts.specs.declared.failure_policy.FailurePolicy.{FailurePolicy, TheVariants.Fail, TheVariants.Ignore}
 
 -- after a condition: true continues, false ends the program with the policy skipped, and an error stores the outcome
 -- that applies if no condition is false

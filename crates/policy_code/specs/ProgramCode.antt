@@ -13,7 +13,7 @@ use Rattle.policy_code.specs.Limits.{tree_texts}
 use Rattle.policy_code.specs.Program.{ValidationCode, policy_code}
 use Rattle.policy_code.specs.ProgramParts.{condition_slots, decided_slots, message_slots, result_slots}
 use Rattle.policy_code.specs.Trees.{PolicyTree, ValidationTree, VariableTree}
-use Rattle.policy_code.specs.declared.failure_policy.FailurePolicy.{FailurePolicy}
+use Rattle.verdicts.specs.declared.failure_policy.FailurePolicy.{FailurePolicy}
 
 -- the layout so far: the number of slots, the texts among the constants, and the places of the routines
 pub record Laid : Type 0 where

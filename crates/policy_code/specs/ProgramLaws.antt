@@ -15,12 +15,12 @@ use Rattle.expression_code.specs.Programs.{start_body, total}
 use Rattle.expression_code.specs.Scopes.{Variable, bindings, first_steps, scope_setting}
 use Rattle.expression_code.specs.Variables.{routine_context}
 use Rattle.policy_code.specs.Limits.{part_limit}
-use Rattle.policy_code.specs.Layout.{IsLayout, outcome_word}
+use Rattle.verdicts.specs.Layout.{IsLayout, outcome_word}
 use Rattle.policy_code.specs.Program.{conditions_code, policy_code, routines_code}
 use Rattle.policy_code.specs.ProgramParts.{ConditionsGive, Part, ValidationPart, ValidationsGive, codes_of, conditions_charge, conditions_steps}
 use Rattle.policy_code.specs.ProgramParts.{decided_slots, codes_of_validations, values_of_validations, validations_charge, validations_steps, values_given}
-use Rattle.policy_code.specs.Verdict.{Verdict, decided_before, truth_of, verdict_of}
-use Rattle.policy_code.specs.declared.failure_policy.FailurePolicy.{FailurePolicy}
+use Rattle.verdicts.specs.Verdict.{Verdict, decided_before, truth_of, verdict_of}
+use Rattle.verdicts.specs.declared.failure_policy.FailurePolicy.{FailurePolicy}
 
 -- R0 holds the outcome's word, and the verdict region is the layout of the verdict
 pub record LeavesVerdict (f : FailurePolicy) (v : Verdict) (b : CpuState) : Type 0 where

@@ -6,8 +6,8 @@ use Rattle.expression_code.specs.Contexts.{Context, Evaluates}
 use Rattle.expression_code.specs.Engine.{RunContext}
 use Rattle.expression_code.specs.Pieces.{size}
 use Rattle.policy_code.specs.Program.{ValidationCode}
-use Rattle.policy_code.specs.Verdict.{Finding, denies, finding_of, truth_of}
-use Rattle.policy_code.specs.declared.failure_policy.FailurePolicy.{FailurePolicy}
+use Rattle.verdicts.specs.Verdict.{Finding, denies, finding_of, truth_of}
+use Rattle.verdicts.specs.declared.failure_policy.FailurePolicy.{FailurePolicy}
 
 -- the code of an expression, its value or error, and bounds on the steps and the charge of computing it
 pub record Part : Type 0 where

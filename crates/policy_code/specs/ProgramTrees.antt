@@ -22,11 +22,11 @@ use Rattle.policy_code.specs.Limits.{part_limit}
 use Rattle.policy_code.specs.Budget.{IsDeepPolicy, policy_spent, policy_work}
 use Rattle.policy_code.specs.Scopes.{depth_in, scope_after, with_variable}
 use Rattle.policy_code.specs.Evaluation.{decision_of}
-use Rattle.policy_code.specs.Layout.{IsLayout, outcome_word}
+use Rattle.verdicts.specs.Layout.{IsLayout, outcome_word}
 use Rattle.policy_code.specs.Limits.{policy_nodes, policy_texts}
 use Rattle.policy_code.specs.ProgramCode.{program_of}
 use Rattle.policy_code.specs.Trees.{PolicyTree, ValidationTree, VariableTree}
-use Rattle.policy_code.specs.declared.failure_policy.FailurePolicy.{FailurePolicy}
+use Rattle.verdicts.specs.declared.failure_policy.FailurePolicy.{FailurePolicy}
 
 -- ---- policies
 

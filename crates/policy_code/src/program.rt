@@ -13,7 +13,6 @@ mod validations;
 mod variables;
 
 use crate::checked::Checked;
-use crate::failure_policy::FailurePolicy;
 use crate::program_error::ProgramError;
 use codegen::{CodeError, Emitter};
 use conditions::{conditions, decided};
@@ -22,6 +21,7 @@ use std::alloc::{AllocError, Global};
 use tails::outcome_tail;
 use validations::validations;
 use variables::variables;
+use verdicts::FailurePolicy;
 
 /// The bytes of the policy's program, and those of the texts that it uses.
 ///

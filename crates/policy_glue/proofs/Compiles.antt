@@ -6,7 +6,7 @@ use Rattle.policy_glue.specs.Checking as parts
 use Rattle.policy_code.specs.ProgramTrees as program
 use Rattle.policy_glue.proofs.Judged.{shallow_known}
 use Rattle.policy_glue.proofs.OneAnswer.{ok_same}
-use Rattle.policy_glue.proofs.Told.{few_parts}
+use Rattle.verdicts.proofs.Told.{few_parts}
 use Rattle.loader.specs.Contents as loader
 use Rattle.policy_code.specs.declared.program_error.ProgramError.{ProgramError}
 use Rattle.policy_code.specs.declared.program_error.ProgramError.TheVariants as program_error

@@ -1,31 +1,20 @@
 -- The names of the library, of the crates below and of the definitions that these proofs use. Declares nothing.
 pub use Rattle.std.proofs.Common.{All, Bool, Err, IfSome, IsErr, List, None, Ok, Option, Result}
-pub use Rattle.std.proofs.Common.{Some, ℕ, [], ap, append-nil, append_assoc, arith, codes, drop}
-pub use Rattle.std.proofs.Common.{false, get_or, if◌then◌else◌, length, length-append, map, nat_lt, not}
-pub use Rattle.std.proofs.Common.{option_map, refl, rules, set, slice_get, slice_index}
-pub use Rattle.std.proofs.Common.{string_bytes, subst, suc, sym, take, true, true≢false, vec_len, zero}
-pub use Rattle.std.proofs.Common.{◌&&◌, ◌*◌, ◌++◌, ◌+◌, ◌-◌, ◌<◌, ◌||◌, ◌∙◌, ◌∷◌, ◌≡◌, ◌≢◌, ◌≤◌}
+pub use Rattle.std.proofs.Common.{Some, ℕ, [], ap, append-nil, append_assoc, arith, drop}
+pub use Rattle.std.proofs.Common.{false, get_or, if◌then◌else◌, length, length-append, map, nat_lt}
+pub use Rattle.std.proofs.Common.{refl}
+pub use Rattle.std.proofs.Common.{string_bytes, subst, sym, true, true≢false}
+pub use Rattle.std.proofs.Common.{◌*◌, ◌++◌, ◌+◌, ◌<◌, ◌||◌, ◌∙◌, ◌∷◌, ◌≡◌, ◌≢◌, ◌≤◌}
 pub use Rattle.std.proofs.Math.ListN.{drop_of_length-le}
-pub use Rattle.std.proofs.lemmas.Bool.{cases_eq, cases_lt, false≢true, ltb-false}
+pub use Rattle.std.proofs.lemmas.Bool.{false≢true, ltb-false}
 pub use Rattle.std.proofs.lemmas.Bool.Decides.{nat_tests}
-pub use Rattle.std.proofs.lemmas.Cmp.{nat_list_eq_equiv}
-pub use Rattle.std.proofs.lemmas.List.{drop_more, get_or-set_other, get_or-set_same, length-map, length-set}
-pub use Rattle.std.proofs.lemmas.List.{map-append, map-set, take-append-drop, take_more}
+pub use Rattle.std.proofs.lemmas.List.{drop_more}
+pub use Rattle.std.proofs.lemmas.List.{map-append}
 pub use Rattle.std.proofs.lemmas.List.Elements.{All-head, All-push, All-tail}
-pub use Rattle.std.proofs.lemmas.List.Folds.{list_any-append}
 pub use Rattle.std.proofs.lemmas.List.Sums.{fold-append}
-pub use Rattle.std.proofs.lemmas.Map.Text.{is_eq-slice_cmp}
-pub use Rattle.std.proofs.lemmas.Option.{slice_get-get_or, slice_get_past}
-pub use Rattle.std.proofs.lemmas.Result.{IfOk-weaker}
-pub use Rattle.std.proofs.lemmas.Str.{IsUtf8-from_is_utf8, is_utf8-from_IsUtf8}
-pub use Rattle.std.specs.BTreeSet.{BTreeSet, IsEmpty, Updates, contains}
-pub use Rattle.std.specs.Borrow.{Bor}
-pub use Rattle.std.specs.Cmp.Lexicographic.{slice_cmp}
 pub use Rattle.std.specs.List.{list_any}
-pub use Rattle.std.specs.Ordering.{is_eq, nat_cmp}
 pub use Rattle.std.specs.Prelude.{⊤}
 pub use Rattle.std.specs.Result.{IsErrAnd}
-pub use Rattle.std.specs.Str.{IsUtf8, bytes_eq}
 unfoldable pub use Rattle.bpf_machine.specs.Access.{load_row, load_wide_row, store_row}
 unfoldable pub use Rattle.bpf_machine.specs.Arithmetic.{alu_row}
 unfoldable pub use Rattle.bpf_machine.specs.Decoding.{insn_at}
@@ -81,8 +70,6 @@ unfoldable pub use Rattle.tree_code.specs.Cost.{cost}
 pub use Rattle.expression_code.proofs.Pieces.{length-spelling, size-append, size-cons}
 pub use Rattle.expression_code.specs.Limits.{slots_per_node, variable_depth_limit, word_limit}
 pub use Rattle.expression_code.specs.Pieces.{size, spellings}
-pub use Rattle.guest_memory.proofs.RegionWords.{read_word}
-pub use Rattle.guest_memory.specs.Memory.{IsMemory, Memory, base_of}
 unfoldable pub use Rattle.guest_memory.specs.Access.{constants_of, read_of, write_of}
 unfoldable pub use Rattle.guest_memory.specs.Memory.{start_memory}
 unfoldable pub use Rattle.guest_memory.specs.RegionWords.{word_in}
@@ -98,9 +85,7 @@ unfoldable pub use Rattle.insn_codec.specs.Spelled.{spelled}
 pub use Rattle.loader.specs.Limits.{constants_limit}
 pub use Rattle.loader.specs.declared.version.Version.TheVariants.{Second}
 unfoldable pub use Rattle.loader.specs.Format.{image_from}
-pub use Rattle.serde_json.specs.Read.{read}
-pub use Rattle.serde_json.specs.View.{items_view, members_view}
-pub use Rattle.value_store.specs.Value.{ValueOrError}
+unfoldable pub use Rattle.value_store.specs.Documents.{document_of}
 pub use Rattle.policy_glue.specs.Checked.{PartsChecked, Checks, ChecksConditions, ChecksValidation, ChecksValidations}
 pub use Rattle.policy_glue.specs.Checked.{ChecksVariables, ReadsAndExpands, IsAdded, IsExpanded}
 pub use Rattle.policy_code.specs.Checked.{IsChecked, IsFormedValidation, IsFormedVariable}
@@ -119,25 +104,14 @@ pub use Rattle.policy_glue.specs.Checking.{refused, taken, texts, truths, types_
 pub use Rattle.policy_glue.specs.Checking.{variable_judged, with_depth, with_typing}
 pub use Rattle.policy_glue.specs.CompileErrors.{from_macros, from_reader, in_part, from_program}
 pub use Rattle.policy_glue.specs.Compiled.{CompilesTo, IsCompiled}
-pub use Rattle.policy_glue.specs.Denials.{denial_view, denials_by, denials_read, denials_told, denies_word, lent}
-pub use Rattle.policy_glue.specs.Documents.{each, keys_within}
 pub use Rattle.policy_code.specs.Emission.{EmitsProgram, HasTrees}
-pub use Rattle.policy_glue.specs.Layout.{AreRead, Encodes, VerdictWords, message_at}
-pub use Rattle.policy_code.specs.Layout.{IsLayout, finding_word, first_message, first_result, message_in}
-pub use Rattle.policy_glue.specs.Layout.{ok_or_zero, result_at, text_named, words_view}
-pub use Rattle.policy_code.specs.Layout.{outcome_of, outcome_word, truth_word}
 pub use Rattle.policy_glue.specs.Limits.{Compiles, excess}
-pub use Rattle.policy_glue.specs.Rejections.{Rejection, rejection_tree, rejection_by, rejection_of, rejection_view}
 pub use Rattle.policy_glue.specs.OneImage.{OneImage, contents}
-pub use Rattle.policy_glue.specs.Policy.{NamedExpression, Policy, Validation, named_view, policy_view, validation_view}
-pub use Rattle.policy_code.specs.Limits.{part_limit, limit_passed}
+pub use Rattle.verdicts.specs.Policy.{NamedExpression, Policy, Validation, named_view, validation_view}
+pub use Rattle.policy_code.specs.Limits.{limit_passed}
 pub use Rattle.policy_code.specs.ProgramTrees.{HasProgram, ProgramDecides, ProgramIsShort, ProgramStops}
-pub use Rattle.policy_glue.specs.Reading.{IsAcceptedPolicy, are_distinct, has_line_break, named_in, validation_in}
-pub use Rattle.policy_glue.specs.Response.{Denial, denial_text, denials_of, separator_of, tree_of}
+pub use Rattle.verdicts.specs.Reading.{IsAcceptedPolicy}
 pub use Rattle.policy_code.specs.Trees.{PolicyTree, ValidationTree, VariableTree}
-pub use Rattle.policy_code.specs.Verdict.{Finding, CheckResult, Verdict, denies}
-pub use Rattle.policy_code.specs.declared.outcome.Outcome.{Outcome}
-pub use Rattle.policy_code.specs.declared.outcome.Outcome.TheVariants.{Admitted, Skipped}
 pub use Rattle.policy_code.specs.declared.checked.Checked.{Checked}
 pub use Rattle.policy_code.specs.declared.checked_validation.CheckedValidation.{CheckedValidation}
 pub use Rattle.policy_glue.specs.declared.compile_error.CompileError.{CompileError}
@@ -148,24 +122,21 @@ pub use Rattle.policy_glue.specs.declared.expression_error.ExpressionError.{Expr
 pub use Rattle.policy_glue.specs.declared.expression_error.ExpressionError.TheVariants.{NeedsTooManyWords}
 pub use Rattle.policy_glue.specs.declared.expression_error.ExpressionError.TheVariants.{VariableTooDeep, Unexpanded}
 pub use Rattle.policy_glue.specs.declared.expression_error.ExpressionError.TheVariants.{Unread, Untyped}
-pub use Rattle.policy_code.specs.declared.failure_policy.FailurePolicy.{FailurePolicy}
-pub use Rattle.policy_glue.specs.declared.named_expression.NamedExpression.{NamedExpression as CodeNamedExpression}
+pub use Rattle.verdicts.specs.declared.failure_policy.FailurePolicy.{FailurePolicy}
+pub use Rattle.verdicts.specs.declared.named_expression.NamedExpression.{NamedExpression as CodeNamedExpression}
 pub use Rattle.policy_glue.specs.declared.part_kind.PartKind.{PartKind}
 pub use Rattle.policy_glue.specs.declared.part_kind.PartKind.TheVariants.{Condition, Message}
 pub use Rattle.policy_glue.specs.declared.part_kind.PartKind.TheVariants.{Validation as CodeValidation}
-pub use Rattle.policy_glue.specs.declared.parts.Parts.{Parts}
 unfoldable pub use Rattle.policy_code.specs.Budget.{policy_cost}
 unfoldable pub use Rattle.policy_glue.specs.Checking.{expression_judged}
-unfoldable pub use Rattle.policy_glue.specs.Documents.{document_of}
 unfoldable pub use Rattle.policy_code.specs.Evaluation.{decision_of}
-unfoldable pub use Rattle.policy_glue.specs.Layout.{verdict_word}
 unfoldable pub use Rattle.policy_code.specs.Limits.{policy_nodes, policy_texts}
-unfoldable pub use Rattle.policy_glue.specs.Rejections.{response_text}
+unfoldable pub use Rattle.verdicts.specs.Rejections.{response_text}
 unfoldable pub use Rattle.policy_code.specs.Program.{condition_tail, conditions_code, denial_code, message_tail}
 unfoldable pub use Rattle.policy_code.specs.Program.{outcome_tail, policy_code, validations_code}
 unfoldable pub use Rattle.policy_code.specs.ProgramCode.{program_of}
-unfoldable pub use Rattle.policy_glue.specs.Reading.{has_head, has_spec_form, has_top_form, named_keys, named_parts}
-unfoldable pub use Rattle.policy_glue.specs.Reading.{policy_in, policy_of, reason_in, validation_keys}
-unfoldable pub use Rattle.policy_glue.specs.Reading.{validation_parts, spec_keys, spec_parts, top_keys}
-unfoldable pub use Rattle.policy_glue.specs.Response.{response_of, review_tree}
-unfoldable pub use Rattle.policy_code.specs.Verdict.{verdict_of}
+unfoldable pub use Rattle.verdicts.specs.Reading.{has_head, has_spec_form, has_top_form, named_keys, named_parts}
+unfoldable pub use Rattle.verdicts.specs.Reading.{policy_in, policy_of, reason_in, validation_keys}
+unfoldable pub use Rattle.verdicts.specs.Reading.{validation_parts, spec_keys, spec_parts, top_keys}
+unfoldable pub use Rattle.verdicts.specs.Response.{response_of, review_tree}
+unfoldable pub use Rattle.verdicts.specs.Verdict.{verdict_of}

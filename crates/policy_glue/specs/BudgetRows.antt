@@ -9,7 +9,7 @@ use Rattle.policy_glue.specs.Limits.{excess}
 use Rattle.policy_code.specs.Limits.{policy_nodes, policy_texts}
 use Rattle.policy_code.specs.Trees.{PolicyTree}
 use Rattle.policy_glue.specs.declared.compile_error.CompileError.TheVariants.{TooManyNodes}
-use Rattle.policy_code.specs.declared.failure_policy.FailurePolicy.TheVariants.{Fail}
+use Rattle.verdicts.specs.declared.failure_policy.FailurePolicy.TheVariants.{Fail}
 
 abbrev pub few_replicas : PolicyTree
 few_replicas = policy_of_validations (bare at_most_three ∷ [])

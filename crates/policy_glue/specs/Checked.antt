@@ -16,7 +16,7 @@ use Rattle.policy_code.specs.Scopes.{depth_in, scope_after, with_variable}
 use Rattle.policy_code.specs.Checked.{IsChecked, IsFormedValidation, IsFormedVariable}
 use Rattle.policy_code.specs.Checked.{validation_expanded, validation_trees, variable_expanded}
 use Rattle.policy_glue.specs.Checking.{expression_judged, texts, variable_judged}
-use Rattle.policy_glue.specs.Policy.{NamedExpression, Validation, Policy}
+use Rattle.verdicts.specs.Policy.{NamedExpression, Validation, Policy}
 use Rattle.policy_code.specs.Trees.{VariableTree, ValidationTree, PolicyTree}
 use Rattle.policy_code.specs.declared.checked.Checked.{Checked}
 use Rattle.policy_code.specs.declared.checked_validation.CheckedValidation.{CheckedValidation}

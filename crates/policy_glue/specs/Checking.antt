@@ -21,7 +21,7 @@ use Rattle.cel_types.specs.declared.cel_type.CelType.TheVariants as type
 use Rattle.cel_types.specs.declared.type_error.TypeError.{TypeError, TheVariants.UnknownIdentifier, TheVariants.NoMatchingOverload, TheVariants.MisusedVariables}
 use Rattle.cel_measures.specs.Measures.{need}
 use Rattle.expression_code.specs.Limits.{word_limit, variable_depth_limit}
-use Rattle.policy_glue.specs.Policy.{NamedExpression, Validation, Policy}
+use Rattle.verdicts.specs.Policy.{NamedExpression, Validation, Policy}
 use Rattle.policy_code.specs.Trees.{VariableTree, ValidationTree, PolicyTree}
 pub use Rattle.policy_code.specs.Scopes.{depth_in, scope_after, type_or_any, with_variable}
 use Rattle.policy_glue.specs.declared.part_kind.PartKind.{PartKind, TheVariants.Variable, TheVariants.Condition, TheVariants.Validation as CodeValidation, TheVariants.Message}

@@ -12,11 +12,11 @@ use Rattle.expression_code.specs.Contexts.{HasValues}
 use Rattle.policy_code.specs.Budget.{policy_work}
 use Rattle.policy_glue.specs.Limits.{Compiles}
 use Rattle.policy_code.specs.Limits.{policy_nodes}
-use Rattle.policy_glue.specs.Policy.{Policy}
+use Rattle.verdicts.specs.Policy.{Policy}
 use Rattle.policy_code.specs.ProgramTrees.{Decides}
 use Rattle.policy_code.specs.Trees.{PolicyTree}
 use Rattle.policy_glue.specs.declared.compile_error.CompileError.{CompileError, TheVariants.Memory}
-use Rattle.policy_code.specs.declared.failure_policy.FailurePolicy.{FailurePolicy}
+use Rattle.verdicts.specs.declared.failure_policy.FailurePolicy.{FailurePolicy}
 
 -- An image of version 2 with at most 128 slots of 8 bytes for each of the policy's nodes. On any five roots it has
 -- decided as the policy does after 128 steps for each unit of the policy's work, and also if it stopped earlier.

@@ -15,10 +15,10 @@ use Rattle.policy_glue.specs.Checking.{expression_judged, texts, truths, variabl
 use Rattle.policy_code.specs.Scopes.{scope_after}
 use Rattle.policy_code.specs.Evaluation.{decision_of}
 use Rattle.policy_code.specs.Trees.{VariableTree, ValidationTree, PolicyTree}
-use Rattle.policy_code.specs.Verdict.{Verdict, Finding, CheckResult, Holds, Fails, Errs}
-use Rattle.policy_code.specs.declared.outcome.Outcome.{TheVariants.Skipped, TheVariants.Rejected, TheVariants.Denied, TheVariants.Admitted}
+use Rattle.verdicts.specs.Verdict.{Verdict, Finding, CheckResult, Holds, Fails, Errs}
+use Rattle.verdicts.specs.declared.outcome.Outcome.{TheVariants.Skipped, TheVariants.Rejected, TheVariants.Denied, TheVariants.Admitted}
 use Rattle.policy_glue.specs.declared.expression_error.ExpressionError.TheVariants.{Unexpanded, Untyped, NeedsTooManyWords, VariableTooDeep}
-use Rattle.policy_code.specs.declared.failure_policy.FailurePolicy.{FailurePolicy, TheVariants.Fail, TheVariants.Ignore}
+use Rattle.verdicts.specs.declared.failure_policy.FailurePolicy.{FailurePolicy, TheVariants.Fail, TheVariants.Ignore}
 
 -- ---- decisions
 

@@ -5,22 +5,11 @@ use Rattle.cel_tokens.specs.ErrorCodes.{read_error_code, read_error_place}
 use Rattle.cel_types.specs.ErrorCodes.{type_error_code}
 use Rattle.codegen.specs.ErrorCodes.{code_error_code}
 use Rattle.codegen.specs.declared.code_error.CodeError.TheVariants as code_error
+pub use Rattle.verdicts.specs.ErrorCodes.{policy_error_code}
 use Rattle.policy_glue.specs.declared.compile_error.CompileError.{CompileError, TheVariants.InvalidExpression, TheVariants.NotABool, TheVariants.MessageNotAString, TheVariants.TooManyNodes, TheVariants.TooManyTextBytes}
 use Rattle.policy_glue.specs.declared.compile_error.CompileError.TheVariants as compile_error
 use Rattle.policy_glue.specs.declared.expression_error.ExpressionError.{ExpressionError, TheVariants.Unread, TheVariants.Unexpanded, TheVariants.Untyped, TheVariants.NeedsTooManyWords, TheVariants.VariableTooDeep}
 use Rattle.policy_glue.specs.declared.expression_error.ExpressionError.TheVariants as expression_error
-use Rattle.policy_glue.specs.declared.policy_error.PolicyError.{PolicyError, TheVariants.NotJson, TheVariants.NotAPolicy, TheVariants.InvalidField, TheVariants.NoValidations, TheVariants.TooManyParts, TheVariants.MessageWithLineBreak}
-use Rattle.policy_glue.specs.declared.policy_error.PolicyError.TheVariants as policy_error
-
--- the code of a policy error: K1 to K5, K8 or memory
-abbrev pub policy_error_code : PolicyError → List ℕ
-policy_error_code NotJson = codes "K1"
-policy_error_code NotAPolicy = codes "K2"
-policy_error_code InvalidField = codes "K3"
-policy_error_code NoValidations = codes "K4"
-policy_error_code TooManyParts = codes "K5"
-policy_error_code MessageWithLineBreak = codes "K8"
-policy_error_code policy_error.Memory = codes "memory"
 
 -- the code of an expression's error: that of its text, macro or type, or G1, G2 or memory
 abbrev pub expression_error_code : ExpressionError → List ℕ

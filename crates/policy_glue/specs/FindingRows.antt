@@ -1,13 +1,13 @@
 -- What is found against requests, worked by hand.
 use Rattle.std.specs.Prelude.{◌≡◌, ℕ, ◌++◌, true, false, List, [], ◌∷◌, Some, None, codes, replicate}
 use Rattle.std.specs.List.{concat}
-use Rattle.policy_glue.specs.Findings.{PolicyFinding, expression_message, findings_of, is_short_line}
-use Rattle.policy_glue.specs.Policy.{Validation}
+use Rattle.verdicts.specs.Findings.{PolicyFinding, expression_message, findings_of, is_short_line}
+use Rattle.verdicts.specs.Policy.{Validation}
 use Rattle.policy_glue.specs.Rows.{plain_validation, policy_with, rejected, skipped}
-use Rattle.policy_code.specs.Verdict.{CheckResult, Finding, Holds, Fails, Errs}
-use Rattle.policy_code.specs.declared.failure_policy.FailurePolicy.{FailurePolicy, TheVariants.Fail, TheVariants.Ignore}
-use Rattle.policy_code.specs.declared.outcome.Outcome.TheVariants.{Admitted, Denied, Skipped}
-use Rattle.policy_glue.specs.declared.reason.Reason.{Reason, TheVariants.Forbidden, TheVariants.Invalid}
+use Rattle.verdicts.specs.Verdict.{CheckResult, Finding, Holds, Fails, Errs}
+use Rattle.verdicts.specs.declared.failure_policy.FailurePolicy.{FailurePolicy, TheVariants.Fail, TheVariants.Ignore}
+use Rattle.verdicts.specs.declared.outcome.Outcome.TheVariants.{Admitted, Denied, Skipped}
+use Rattle.verdicts.specs.declared.reason.Reason.{Reason, TheVariants.Forbidden, TheVariants.Invalid}
 
 -- the validation `a`, with a message that has a space at both ends, and a reason
 abbrev pub with_message : Validation

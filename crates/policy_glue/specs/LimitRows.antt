@@ -1,16 +1,16 @@
 -- The largest numbers of parts, and the response for each reason, worked by hand.
 use Rattle.std.specs.Prelude.{◌≡◌, ℕ, zero, suc, List, [], ◌∷◌, ◌++◌, None, Some, Ok, Err, codes, decimal}
 use Rattle.serde_json.specs.Data as json
-use Rattle.policy_glue.specs.Policy.{NamedExpression, Policy, Validation}
-use Rattle.policy_glue.specs.Reading.{failure_in, judged, reason_in}
-use Rattle.policy_glue.specs.Response.{response_of}
+use Rattle.verdicts.specs.Policy.{NamedExpression, Policy, Validation}
+use Rattle.verdicts.specs.Reading.{failure_in, judged, reason_in}
+use Rattle.verdicts.specs.Response.{response_of}
 use Rattle.policy_glue.specs.Rows.{denied_as, plain_validation, policy_with}
-use Rattle.policy_code.specs.Verdict.{Fails}
-use Rattle.policy_code.specs.declared.failure_policy.FailurePolicy.TheVariants.{Fail, Ignore}
-use Rattle.policy_code.specs.declared.outcome.Outcome.TheVariants.{Denied}
-use Rattle.policy_glue.specs.declared.policy_error.PolicyError.TheVariants.{NoValidations, TooManyParts}
-use Rattle.policy_glue.specs.declared.reason.Reason.{Reason}
-use Rattle.policy_glue.specs.declared.reason.Reason.TheVariants.{Unauthorized, Forbidden, Invalid, RequestEntityTooLarge}
+use Rattle.verdicts.specs.Verdict.{Fails}
+use Rattle.verdicts.specs.declared.failure_policy.FailurePolicy.TheVariants.{Fail, Ignore}
+use Rattle.verdicts.specs.declared.outcome.Outcome.TheVariants.{Denied}
+use Rattle.verdicts.specs.declared.policy_error.PolicyError.TheVariants.{NoValidations, TooManyParts}
+use Rattle.verdicts.specs.declared.reason.Reason.{Reason}
+use Rattle.verdicts.specs.declared.reason.Reason.TheVariants.{Unauthorized, Forbidden, Invalid, RequestEntityTooLarge}
 
 abbrev pub parts : ℕ → List NamedExpression
 parts zero = []

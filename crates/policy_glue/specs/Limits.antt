@@ -6,7 +6,7 @@ use Rattle.expression_code.specs.Limits.{slots_per_node}
 use Rattle.tree_code.specs.Constants.{joined}
 use Rattle.policy_code.specs.Trees.{PolicyTree}
 use Rattle.policy_glue.specs.Checking.{PartsEnd}
-use Rattle.policy_glue.specs.Policy.{Policy}
+use Rattle.verdicts.specs.Policy.{Policy}
 use Rattle.policy_glue.specs.declared.compile_error.CompileError.{CompileError, TheVariants.TooManyNodes, TheVariants.TooManyTextBytes}
 pub use Rattle.policy_code.specs.Limits.{part_nodes, tree_texts, validation_nodes, validation_tree_texts}
 unfoldable pub use Rattle.policy_code.specs.Limits.{policy_nodes, policy_texts}

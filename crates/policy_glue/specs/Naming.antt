@@ -4,7 +4,7 @@ use Rattle.std.specs.List.{list_any}
 use Rattle.cel_reader.specs.Tree.{Tree, Trees, TreeEntries, literal, name, select, index, call, method, unary, binary, ternary, list, map}
 use Rattle.cel_reader.specs.Tree.{no_trees, more_trees, no_entries, more_entries}
 use Rattle.policy_glue.specs.Checking.{ReadsTree}
-use Rattle.policy_glue.specs.Policy.{NamedExpression}
+use Rattle.verdicts.specs.Policy.{NamedExpression}
 use Rattle.policy_code.specs.Trees.{PolicyTree}
 
 unfoldable mutual

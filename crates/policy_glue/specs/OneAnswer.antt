@@ -8,7 +8,7 @@ use Rattle.cel_types.specs.Types.{allowed}
 use Rattle.policy_glue.specs.Checking.{IsOneOf, IsTaken, expression_judged}
 use Rattle.policy_glue.specs.Limits.{Compiles}
 use Rattle.policy_glue.specs.OneImage.{OneImage}
-use Rattle.policy_glue.specs.Policy.{Policy}
+use Rattle.verdicts.specs.Policy.{Policy}
 use Rattle.policy_code.specs.Trees.{PolicyTree}
 use Rattle.policy_glue.specs.declared.compile_error.CompileError.{CompileError}
 

@@ -8,10 +8,10 @@ use Rattle.expression_code.specs.Pieces.{spellings}
 use Rattle.tree_code.specs.Constants.{joined}
 use Rattle.policy_glue.specs.Limits.{Compiles}
 use Rattle.policy_code.specs.Limits.{policy_texts}
-use Rattle.policy_glue.specs.Policy.{Policy}
+use Rattle.verdicts.specs.Policy.{Policy}
 use Rattle.policy_code.specs.ProgramCode.{program_of}
 use Rattle.policy_code.specs.Trees.{PolicyTree}
-use Rattle.policy_code.specs.declared.failure_policy.FailurePolicy.{FailurePolicy}
+use Rattle.verdicts.specs.declared.failure_policy.FailurePolicy.{FailurePolicy}
 
 -- the contents of an image of this version
 abbrev pub contents : Version → List ℕ → List ℕ → loader.Image

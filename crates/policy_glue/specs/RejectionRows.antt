@@ -1,15 +1,15 @@
 -- Rejections, the responses to them, and words of verdict regions, worked by hand.
 use Rattle.std.specs.Prelude.{◌≡◌, ℕ, [], ◌∷◌, List, Some, None, Ok, codes}
 use Rattle.value_store.specs.Value.{value, text}
-use Rattle.policy_code.specs.Layout.{IsMessageWord, finding_word, first_message, first_result, message_in, outcome_of, outcome_word}
-use Rattle.policy_glue.specs.Layout.{ok_or_zero, text_named}
-use Rattle.policy_glue.specs.Policy.{Policy}
-use Rattle.policy_glue.specs.Rejections.{rejection_of, response_text}
+use Rattle.verdicts.specs.Layout.{IsMessageWord, finding_word, first_message, first_result, message_in, outcome_of, outcome_word}
+use Rattle.verdicts.specs.Words.{ok_or_zero, text_named}
+use Rattle.verdicts.specs.Policy.{Policy}
+use Rattle.verdicts.specs.Rejections.{rejection_of, response_text}
 use Rattle.policy_glue.specs.Rows.{answered, denied_as, few_replicas, plain, policy_with, rejected, skipped, two_denials, two_findings}
-use Rattle.policy_code.specs.Verdict.{Verdict, Holds, Fails, Errs}
-use Rattle.policy_code.specs.declared.failure_policy.FailurePolicy.TheVariants.{Fail, Ignore}
-use Rattle.policy_code.specs.declared.outcome.Outcome.TheVariants.{Skipped, Rejected, Denied, Admitted}
-use Rattle.policy_glue.specs.declared.reason.Reason.TheVariants.{Forbidden, Invalid}
+use Rattle.verdicts.specs.Verdict.{Verdict, Holds, Fails, Errs}
+use Rattle.verdicts.specs.declared.failure_policy.FailurePolicy.TheVariants.{Fail, Ignore}
+use Rattle.verdicts.specs.declared.outcome.Outcome.TheVariants.{Skipped, Rejected, Denied, Admitted}
+use Rattle.verdicts.specs.declared.reason.Reason.TheVariants.{Forbidden, Invalid}
 
 -- the response to the request u1, by way of the policy's rejection
 abbrev pub by_rejection : Policy → Verdict → List ℕ

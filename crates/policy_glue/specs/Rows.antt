@@ -1,14 +1,14 @@
 -- Policies, verdicts and responses worked by hand.
 use Rattle.std.specs.Prelude.{◌≡◌, ℕ, pos, Bool, true, false, List, [], ◌∷◌, ◌++◌, Option, Some, None, Result, Ok, Err, codes}
 use Rattle.value_store.specs.Value.{ValueOrError, error, value, boolean, int, text}
-use Rattle.policy_glue.specs.Policy.{Validation, Policy}
-use Rattle.policy_glue.specs.Reading.{policy_in}
-use Rattle.policy_glue.specs.Response.{response_of}
-use Rattle.policy_code.specs.Verdict.{Verdict, Holds, Fails, Errs, verdict_of}
-use Rattle.policy_code.specs.declared.outcome.Outcome.{TheVariants.Skipped, TheVariants.Rejected, TheVariants.Denied, TheVariants.Admitted}
-use Rattle.policy_code.specs.declared.failure_policy.FailurePolicy.{FailurePolicy, TheVariants.Fail, TheVariants.Ignore}
-use Rattle.policy_glue.specs.declared.policy_error.PolicyError.{PolicyError, TheVariants.NotJson, TheVariants.NotAPolicy, TheVariants.InvalidField, TheVariants.NoValidations, TheVariants.MessageWithLineBreak}
-use Rattle.policy_glue.specs.declared.reason.Reason.TheVariants.{Forbidden, Invalid}
+use Rattle.verdicts.specs.Policy.{Validation, Policy}
+use Rattle.verdicts.specs.Reading.{policy_in}
+use Rattle.verdicts.specs.Response.{response_of}
+use Rattle.verdicts.specs.Verdict.{Verdict, Holds, Fails, Errs, verdict_of}
+use Rattle.verdicts.specs.declared.outcome.Outcome.{TheVariants.Skipped, TheVariants.Rejected, TheVariants.Denied, TheVariants.Admitted}
+use Rattle.verdicts.specs.declared.failure_policy.FailurePolicy.{FailurePolicy, TheVariants.Fail, TheVariants.Ignore}
+use Rattle.verdicts.specs.declared.policy_error.PolicyError.{PolicyError, TheVariants.NotJson, TheVariants.NotAPolicy, TheVariants.InvalidField, TheVariants.NoValidations, TheVariants.MessageWithLineBreak}
+use Rattle.verdicts.specs.declared.reason.Reason.TheVariants.{Forbidden, Invalid}
 
 -- ---- documents
 

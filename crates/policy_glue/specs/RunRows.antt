@@ -10,7 +10,7 @@ use Rattle.bpf_machine.specs.declared.status.Status.TheVariants.{Exited}
 use Rattle.policy_glue.specs.DecisionRows.{bare, policy_of_validations}
 use Rattle.policy_glue.specs.OneImage.{program_image}
 use Rattle.policy_code.specs.Trees.{PolicyTree}
-use Rattle.policy_code.specs.declared.failure_policy.FailurePolicy.{FailurePolicy, TheVariants.Fail, TheVariants.Ignore}
+use Rattle.verdicts.specs.declared.failure_policy.FailurePolicy.{FailurePolicy, TheVariants.Fail, TheVariants.Ignore}
 
 -- the state after this number of steps
 abbrev pub run : FailurePolicy → PolicyTree → ℕ → State

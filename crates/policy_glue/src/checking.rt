@@ -3,19 +3,19 @@
 ghost use Rattle.std.specs.Prelude.{◌≡◌, None, Ok, map, option_map, string_bytes};
 ghost use Rattle.cel_macros.specs.CoreView.{core_view};
 ghost use Rattle.policy_glue.specs.Checked.{AddsVariable, Checks, ChecksConditions, ChecksValidation, ChecksValidations, ChecksVariables, SortsMessage};
-ghost use Rattle.policy_glue.specs.Policy.{named_view, validation_view, policy_view};
+ghost use Rattle.verdicts.specs.Policy.{named_view, validation_view, policy_view};
 
 use crate::compile_error::CompileError;
 use crate::judging::{part_judged, variable_judged};
 use crate::named_expression::NamedExpression;
 use crate::part_kind::PartKind;
 use crate::parts::Parts;
-use crate::policy::Policy;
 use crate::validation::Validation;
 use cel_macros::Core;
 use cel_types::Scope;
 use policy_code::{Checked, CheckedValidation};
 use std::alloc::Global;
+use verdicts::Policy;
 
 /// The policy with its expressions checked, or its first refusal. Variables come first, then match
 /// conditions, then validations, each list in order; a message expression comes directly after its
@@ -23,7 +23,7 @@ use std::alloc::Global;
 pub(crate) fn checked(alloc: Global, policy: &Policy) -> Result<Checked, CompileError>
     ensures { Checks policy.now result }
 {
-    parts_checked(alloc, &policy.parts)
+    parts_checked(alloc, policy.parts())
 }
 
 fn parts_checked(alloc: Global, parts: &Parts) -> Result<Checked, CompileError>

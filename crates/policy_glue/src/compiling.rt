@@ -8,11 +8,11 @@ ghost use Rattle.policy_glue.specs.OneImage.{contents, OneImage};
 
 use crate::checking::checked;
 use crate::compile_error::CompileError;
-use crate::policy::Policy;
 use loader::Image;
 use policy_code::laws::program_decides;
 use policy_code::program_of;
 use std::alloc::Global;
+use verdicts::Policy;
 
 /// Compiles the policy to an image of version 2. Started on the roots of a request, the program
 /// leaves the verdict in its verdict region and exits with the outcome, or it is stopped for its
@@ -29,7 +29,7 @@ pub fn compile(alloc: Global, policy: &Policy) -> Result<Image, CompileError>
 {
     let checked = checked(alloc, policy)?;
     program_decides();
-    let (code, constants) = program_of(alloc, policy.parts.failure_policy, &checked)?;
+    let (code, constants) = program_of(alloc, policy.parts().failure_policy, &checked)?;
     Ok(image(code, constants))
 }
 

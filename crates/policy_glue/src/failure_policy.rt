@@ -1,3 +1,3 @@
 //! What happens if an expression cannot be decided.
 
-pub use policy_code::FailurePolicy;
+pub use verdicts::FailurePolicy;

@@ -1,10 +1,3 @@
-//! An expression with a name.
+//! Match conditions and variables.
 
-/// A match condition or a variable.
-#[derive(Debug, Drop)]
-pub struct NamedExpression {
-    /// Its name, unique in its list.
-    pub name: String,
-    /// Its CEL expression.
-    pub expression: String,
-}
+pub use verdicts::NamedExpression;

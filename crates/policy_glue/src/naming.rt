@@ -8,20 +8,24 @@ ghost use Rattle.policy_glue.specs.Checking.{ReadsTree};
 ghost use Rattle.policy_glue.specs.Limits.{Compiles};
 ghost use Rattle.policy_glue.specs.Naming as specs;
 ghost use Rattle.policy_glue.specs.Naming.{conditions_name_namespace, EachReads};
-ghost use Rattle.policy_glue.specs.Policy.{named_view};
+ghost use Rattle.verdicts.specs.Policy.{named_view};
 ghost use Rattle.policy_code.specs.Trees.{PolicyTree};
 
 use crate::named_expression::NamedExpression;
-use crate::policy::Policy;
 use cel_reader::{Expr, ReadError, read};
 use std::alloc::{AllocError, Global};
+use verdicts::Policy;
 
 /// Whether some match condition of the policy, which compiles, names the root `namespaceObject`,
 /// if only as the name that a macro binds. The error says that an allocation failed.
 pub fn conditions_name_namespace(alloc: Global, policy: &Policy) -> Result<bool, AllocError>
     ensures { (t : PolicyTree) → Compiles policy.now (Ok t) → IfOk result (λ named. named ≡ conditions_name_namespace t) }
 {
-    one_expression_names(alloc, policy.parts.conditions.as_slice(), "namespaceObject")
+    one_expression_names(
+        alloc,
+        policy.parts().conditions.as_slice(),
+        "namespaceObject",
+    )
 }
 
 /// Whether one of these expressions has the name.

@@ -1,3 +1,3 @@
 //! Outcomes of policies.
 
-pub use policy_code::Outcome;
+pub use verdicts::Outcome;

@@ -7,7 +7,7 @@ pub mod Views
 pub mod Trees
 pub mod Accepted
 pub mod Walks
-pub mod Members
+pub mod NoItems
 pub mod Theorem
 pub mod Expressions
 pub mod Wholes

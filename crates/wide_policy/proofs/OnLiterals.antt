@@ -3,7 +3,7 @@ use Rattle.std.specs.Prelude.{⊤}
 use Rattle.std.specs.Char.{encode_utf8}
 use Rattle.std.specs.Str.{chars, is_utf8, trim_end, trim_start}
 use Rattle.serde_json.proofs.OnLiterals.{serde_json_on_literals}
-use Rattle.policy_glue.specs.Documents.{document_of}
+use Rattle.value_store.specs.Documents.{document_of}
 use Rattle.policy_glue.specs.Reading.{has_head, has_spec_form, has_top_form, named_keys, named_parts, policy_of, reason_in, spec_keys, spec_parts, top_keys, validation_keys, validation_parts}
 use Rattle.wide_policy.specs.WideDocuments.{wide_policy_in, wide_policy_of}
 

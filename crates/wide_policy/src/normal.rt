@@ -3,12 +3,11 @@
 ghost use Rattle.std.specs.Prelude.{◌≡◌, ◌∷◌, codes, IfOk};
 ghost use Rattle.serde_json.specs.View.{items_view, members_view, view};
 ghost use Rattle.policy_glue.specs.Reading.{named_keys, spec_keys, validation_keys};
-ghost use Rattle.wide_policy.specs.WideDocuments.{change, each_item, named_items, named_members, normal_document, normal_members, normal_spec, of_object, of_text, stable_version, unless_empty_text, unless_nulls, validation_items, validation_members};
+ghost use Rattle.json_fields.specs.Members.{changed, each_changed, in_object, without_nulls};
+ghost use Rattle.wide_policy.specs.WideDocuments.{named_items, named_members, normal_document, normal_members, normal_spec, of_text, stable_version, unless_empty_text, validation_items, validation_members};
 
-use crate::fields::{
-    member, other_members, unless_empty_list, unless_empty_text, unless_null, unless_nulls,
-    with_member, with_trimmed,
-};
+use crate::fields::{unless_empty_list, unless_empty_text, with_trimmed};
+use json_fields::{member, others, put_if, without_null, without_nulls};
 use serde_json::{Map, Value};
 use std::alloc::{AllocError, Global};
 
@@ -28,26 +27,26 @@ fn normal_members(
 ) -> Result<Map<String, Value>, AllocError>
     ensures { IfOk result (λ m. members_view m.entries ≡ normal_members (members_view members.entries)) }
 {
-    let members = unless_null(other_members(members, "status"), "metadata");
+    let members = without_null(others(members, "status"), "metadata");
     let members = with_stable_version(alloc, members)?;
     let spec = match member(&members, "spec") {
         Some(spec) => Some(normal_spec(alloc, spec)?),
         None => None,
     };
-    with_member(alloc, members, "spec", spec)
+    put_if(alloc, members, "spec", spec)
 }
 
 fn with_stable_version(
     alloc: Global,
     members: Map<String, Value>,
 ) -> Result<Map<String, Value>, AllocError>
-    ensures { IfOk result (λ m. members_view m.entries ≡ change (codes "apiVersion") (of_text stable_version) (members_view members.entries)) }
+    ensures { IfOk result (λ m. members_view m.entries ≡ changed (codes "apiVersion") (of_text stable_version) (members_view members.entries)) }
 {
     let version = match member(&members, "apiVersion") {
         Some(version) => Some(stable(alloc, version)?),
         None => None,
     };
-    with_member(alloc, members, "apiVersion", version)
+    put_if(alloc, members, "apiVersion", version)
 }
 
 /// The version `v1` for the versions whose policies have the same fields.
@@ -75,7 +74,7 @@ fn stable_version(version: &str) -> &str
 }
 
 fn normal_spec(alloc: Global, spec: &Value) -> Result<Value, AllocError>
-    ensures { IfOk result (λ v. view v ≡ of_object normal_spec (view spec.now)) }
+    ensures { IfOk result (λ v. view v ≡ in_object normal_spec (view spec.now)) }
 {
     match spec.clone()? {
         Value::Object(members) => Ok(Value::Object(spec_members(alloc, members)?)),
@@ -96,12 +95,12 @@ fn spec_members(
         Some(validations) => Some(validation_items(alloc, validations)?),
         None => None,
     };
-    with_member(alloc, members, "validations", validations)
+    put_if(alloc, members, "validations", validations)
 }
 
-#[tactic(auto, unfolding(policy_glue::specs::Reading::spec_keys))]
+#[tactic(auto, unfolding(verdicts::specs::Reading::spec_keys))]
 fn without_spec_nulls(members: Map<String, Value>) -> Map<String, Value>
-    ensures { members_view result.entries ≡ unless_nulls (codes "auditAnnotations" ∷ spec_keys) (members_view members.entries) }
+    ensures { members_view result.entries ≡ without_nulls (codes "auditAnnotations" ∷ spec_keys) (members_view members.entries) }
 {
     let keys = [
         "auditAnnotations",
@@ -112,7 +111,7 @@ fn without_spec_nulls(members: Map<String, Value>) -> Map<String, Value>
         "validations",
         "variables",
     ];
-    unless_nulls(members, &keys)
+    without_nulls(members, &keys)
 }
 
 /// The conditions or variables at this key without null fields, their expressions trimmed.
@@ -121,13 +120,13 @@ fn with_named(
     members: Map<String, Value>,
     key: &str,
 ) -> Result<Map<String, Value>, AllocError>
-    ensures { IfOk result (λ m. members_view m.entries ≡ change key.now named_items (members_view members.entries)) }
+    ensures { IfOk result (λ m. members_view m.entries ≡ changed key.now named_items (members_view members.entries)) }
 {
     let named = match member(&members, key) {
         Some(named) => Some(named_items(alloc, named)?),
         None => None,
     };
-    with_member(alloc, members, key, named)
+    put_if(alloc, members, key, named)
 }
 
 fn named_items(alloc: Global, items: &Value) -> Result<Value, AllocError>
@@ -140,7 +139,7 @@ fn named_items(alloc: Global, items: &Value) -> Result<Value, AllocError>
 }
 
 fn each_named(alloc: Global, items: &Vec<Value>) -> Result<Vec<Value>, AllocError>
-    ensures { IfOk result (λ v. items_view v.items ≡ each_item (of_object named_members) (items_view items.now.items)) }
+    ensures { IfOk result (λ v. items_view v.items ≡ each_changed (in_object named_members) (items_view items.now.items)) }
 {
     let mut each = Vec::new(alloc);
     for item in items {
@@ -150,7 +149,7 @@ fn each_named(alloc: Global, items: &Vec<Value>) -> Result<Vec<Value>, AllocErro
 }
 
 fn named(alloc: Global, item: &Value) -> Result<Value, AllocError>
-    ensures { IfOk result (λ v. view v ≡ of_object named_members (view item.now)) }
+    ensures { IfOk result (λ v. view v ≡ in_object named_members (view item.now)) }
 {
     match item.clone()? {
         Value::Object(members) => {
@@ -161,11 +160,11 @@ fn named(alloc: Global, item: &Value) -> Result<Value, AllocError>
     }
 }
 
-#[tactic(auto, unfolding(policy_glue::specs::Reading::named_keys))]
+#[tactic(auto, unfolding(verdicts::specs::Reading::named_keys))]
 fn without_named_nulls(members: Map<String, Value>) -> Map<String, Value>
-    ensures { members_view result.entries ≡ unless_nulls named_keys (members_view members.entries) }
+    ensures { members_view result.entries ≡ without_nulls named_keys (members_view members.entries) }
 {
-    unless_nulls(members, &["name", "expression"])
+    without_nulls(members, &["name", "expression"])
 }
 
 fn validation_items(alloc: Global, items: &Value) -> Result<Value, AllocError>
@@ -178,7 +177,7 @@ fn validation_items(alloc: Global, items: &Value) -> Result<Value, AllocError>
 }
 
 fn each_validation(alloc: Global, items: &Vec<Value>) -> Result<Vec<Value>, AllocError>
-    ensures { IfOk result (λ v. items_view v.items ≡ each_item (of_object validation_members) (items_view items.now.items)) }
+    ensures { IfOk result (λ v. items_view v.items ≡ each_changed (in_object validation_members) (items_view items.now.items)) }
 {
     let mut each = Vec::new(alloc);
     for item in items {
@@ -188,7 +187,7 @@ fn each_validation(alloc: Global, items: &Vec<Value>) -> Result<Vec<Value>, Allo
 }
 
 fn validation(alloc: Global, item: &Value) -> Result<Value, AllocError>
-    ensures { IfOk result (λ v. view v ≡ of_object validation_members (view item.now)) }
+    ensures { IfOk result (λ v. view v ≡ in_object validation_members (view item.now)) }
 {
     match item.clone()? {
         Value::Object(members) => Ok(Value::Object(validation_members(alloc, members)?)),
@@ -210,15 +209,15 @@ fn validation_members(
 
 /// The members without null fields and without an empty message expression.
 fn validation_fields(members: Map<String, Value>) -> Map<String, Value>
-    ensures { members_view result.entries ≡ unless_empty_text (codes "messageExpression") (unless_nulls validation_keys (members_view members.entries)) }
+    ensures { members_view result.entries ≡ unless_empty_text (codes "messageExpression") (without_nulls validation_keys (members_view members.entries)) }
 {
     unless_empty_text(without_validation_nulls(members), "messageExpression")
 }
 
-#[tactic(auto, unfolding(policy_glue::specs::Reading::validation_keys))]
+#[tactic(auto, unfolding(verdicts::specs::Reading::validation_keys))]
 fn without_validation_nulls(members: Map<String, Value>) -> Map<String, Value>
-    ensures { members_view result.entries ≡ unless_nulls validation_keys (members_view members.entries) }
+    ensures { members_view result.entries ≡ without_nulls validation_keys (members_view members.entries) }
 {
     let keys = ["expression", "message", "messageExpression", "reason"];
-    unless_nulls(members, &keys)
+    without_nulls(members, &keys)
 }

@@ -1,14 +1,14 @@
 //! The policy in a document.
 
 ghost use Rattle.std.specs.Prelude.{◌≡◌, codes, option_and_then, option_map};
-ghost use Rattle.policy_glue.specs.Documents.{equals_string};
 ghost use Rattle.serde_json.specs.Find.{get};
 ghost use Rattle.serde_json.specs.View.{items_view, view};
-ghost use Rattle.wide_policy.specs.WideDocuments.{has_audit_annotations, has_no_items, is_absent, is_absent_list, is_empty_list, is_empty_text, ReadsSource, wide_policy_in, wide_policy_of};
+ghost use Rattle.wide_policy.specs.WideDocuments.{has_audit_annotations, has_no_items, is_absent_list, is_empty_list, is_empty_text, ReadsSource, wide_policy_in, wide_policy_of};
 
 use crate::normal::normal_document;
 use crate::wide_policy_error::WidePolicyError;
-use policy_glue::{Policy, PolicyError, parse_document};
+use json_fields::{equals_string, is_absent, parse_document};
+use policy_glue::{Policy, PolicyError};
 use serde_json::Value;
 use std::alloc::Global;
 
@@ -38,16 +38,8 @@ fn source_of(alloc: Global, value: Value) -> Result<Policy, WidePolicyError>
 fn has_audit_annotations(value: &Value) -> bool
     ensures { result ≡ has_audit_annotations (view value.now) }
 {
-    is_policy(value.get("kind")) && !is_absent_list(annotations(value))
-}
-
-fn is_policy(kind: Option<&Value>) -> bool
-    ensures { result ≡ equals_string (option_map (λ v. view v.now) kind.entry) (codes "ValidatingAdmissionPolicy") }
-{
-    match kind {
-        Some(Value::String(kind)) => kind.as_str() == "ValidatingAdmissionPolicy",
-        _ => false,
-    }
+    equals_string(value.get("kind"), "ValidatingAdmissionPolicy")
+        && !is_absent_list(annotations(value))
 }
 
 fn annotations(value: &Value) -> Option<&Value>
@@ -64,16 +56,6 @@ fn is_absent_list(field: Option<&Value>) -> bool
     ensures { result ≡ is_absent_list (option_map (λ v. view v.now) field.entry) }
 {
     is_absent(field) || is_empty_list(field)
-}
-
-/// Whether a field is missing or null.
-pub(crate) fn is_absent(field: Option<&Value>) -> bool
-    ensures { result ≡ is_absent (option_map (λ v. view v.now) field.entry) }
-{
-    match field {
-        None | Some(Value::Null) => true,
-        Some(_) => false,
-    }
 }
 
 /// Whether a list is empty.

@@ -5,6 +5,8 @@ use Rattle.cel_tokens.specs.declared.read_error.ReadError.TheVariants as read_er
 use Rattle.cel_reader.specs.Tree as profile
 use Rattle.cel_reader.specs.declared.operator.BinaryOperator.TheVariants.{Add, Equal}
 use Rattle.serde_json.specs.Data as json
+use Rattle.json_fields.specs.Fields.{is_absent}
+use Rattle.json_fields.specs.Members.{in_array, in_object, others}
 use Rattle.cel_writer.specs.declared.write_error.WriteError.TheVariants as write_error
 use Rattle.policy_glue.specs.Policy.{NamedExpression, Validation, Policy}
 use Rattle.policy_glue.specs.declared.failure_policy.FailurePolicy.{TheVariants.Fail, TheVariants.Ignore}
@@ -30,8 +32,8 @@ use Rattle.wide_policy.specs.NarrowTrees.{is_message_tabled, is_policy_tabled}
 use Rattle.wide_policy.specs.Rows.{one_validation, said, said_with}
 use Rattle.wide_policy.specs.Taking.{RefusesPart, TakenExpression, TakenValidation, TakenParts, fits, kept_text, notes_from, profile_named}
 use Rattle.wide_policy.specs.Taking.{profile_of, profile_validation, scope_for, source_of, tree_of, Visible, visible, wide_tree_of}
-use Rattle.wide_policy.specs.WideDocuments.{has_audit_annotations, is_absent, is_absent_list, is_empty_list, is_empty_text, of_array}
-use Rattle.wide_policy.specs.WideDocuments.{of_object, of_text, other_members, stable_version, wide_policy_in, with_read_error}
+use Rattle.wide_policy.specs.WideDocuments.{has_audit_annotations, is_absent_list, is_empty_list, is_empty_text, of_text}
+use Rattle.wide_policy.specs.WideDocuments.{stable_version, wide_policy_in, with_read_error}
 use Rattle.wide_policy.specs.WideTrees.{WideVariableTree, WideValidationTree, WidePolicyTree}
 use Rattle.wide_policy.specs.declared.expression_error.WideExpressionError.TheVariants as expression_error
 use Rattle.wide_policy.specs.declared.wide_policy_error.WidePolicyError.{WidePolicyError}
@@ -140,19 +142,19 @@ pub record WidePartRowsStand : Type 0 where
   pub empty_text : is_empty_text (Some (json.string [])) ≡ true
   pub one_letter : is_empty_text (Some text) ≡ false
   pub list_is_no_text : is_empty_text (Some (json.array json.no_items)) ≡ false
-  pub without_first : other_members (codes "a") members ≡ json.member (codes "b") (json.boolean true) json.no_members
-  pub without_second : other_members (codes "b") members ≡ json.member (codes "a") json.null json.no_members
-  pub without_none : other_members (codes "c") members ≡ members
-  pub object_of_null : of_object (λ ms. json.no_members) json.null ≡ json.null
-  pub object_of_bool : of_object (λ ms. json.no_members) (json.boolean true) ≡ json.boolean true
-  pub object_of_text : of_object (λ ms. json.no_members) text ≡ text
-  pub object_of_list : of_object (λ ms. json.no_members) list ≡ list
-  pub object_of_object : of_object (λ ms. json.no_members) (json.object members) ≡ json.object json.no_members
-  pub list_of_null : of_array (λ d. json.null) json.null ≡ json.null
-  pub list_of_bool : of_array (λ d. json.null) (json.boolean true) ≡ json.boolean true
-  pub list_of_text : of_array (λ d. json.null) text ≡ text
-  pub list_of_list : of_array (λ d. json.null) list ≡ json.array (json.item json.null json.no_items)
-  pub list_of_object : of_array (λ d. json.null) (json.object members) ≡ json.object members
+  pub without_first : others (codes "a") members ≡ json.member (codes "b") (json.boolean true) json.no_members
+  pub without_second : others (codes "b") members ≡ json.member (codes "a") json.null json.no_members
+  pub without_none : others (codes "c") members ≡ members
+  pub object_of_null : in_object (λ ms. json.no_members) json.null ≡ json.null
+  pub object_of_bool : in_object (λ ms. json.no_members) (json.boolean true) ≡ json.boolean true
+  pub object_of_text : in_object (λ ms. json.no_members) text ≡ text
+  pub object_of_list : in_object (λ ms. json.no_members) list ≡ list
+  pub object_of_object : in_object (λ ms. json.no_members) (json.object members) ≡ json.object json.no_members
+  pub list_of_null : in_array (λ d. json.null) json.null ≡ json.null
+  pub list_of_bool : in_array (λ d. json.null) (json.boolean true) ≡ json.boolean true
+  pub list_of_text : in_array (λ d. json.null) text ≡ text
+  pub list_of_list : in_array (λ d. json.null) list ≡ json.array (json.item json.null json.no_items)
+  pub list_of_object : in_array (λ d. json.null) (json.object members) ≡ json.object members
   pub text_of_null : of_text (λ s. []) json.null ≡ json.null
   pub text_of_bool : of_text (λ s. []) (json.boolean true) ≡ json.boolean true
   pub text_of_text : of_text (λ s. []) text ≡ json.string []

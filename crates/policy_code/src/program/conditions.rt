@@ -6,11 +6,11 @@ ghost use Rattle.policy_code.specs.Emission.{with_condition, with_conditions, wi
 
 use super::pieces::{put_each, put_expression};
 use super::tails::{condition_tail, decided_tail};
-use crate::failure_policy::FailurePolicy;
 use cel_macros::Core;
 use cel_types::Scope;
 use codegen::Emitter;
 use std::alloc::{AllocError, Global};
+use verdicts::FailurePolicy;
 
 /// Emits the conditions.
 pub(super) fn conditions(

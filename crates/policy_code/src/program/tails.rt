@@ -3,13 +3,11 @@
 ghost use Rattle.std.specs.Prelude.{◌≡◌, ◌<◌, pos};
 ghost use Rattle.expression_code.specs.Words.{verdict_address as address_of_word};
 ghost use Rattle.policy_code.specs.Program as specs;
-ghost use Rattle.policy_code.specs.Layout.{outcome_word};
-ghost use Rattle.policy_code.specs.Verdict.{undecided as outcome_undecided};
-ghost use Rattle.policy_code.specs.Limits.{part_limit};
+ghost use Rattle.verdicts.specs.Layout.{outcome_word};
+ghost use Rattle.verdicts.specs.Verdict.{undecided as outcome_undecided};
+ghost use Rattle.verdicts.specs.Policy.{part_limit};
 ghost use Rattle.expression_code.specs.Limits.{jump_limit};
 
-use crate::failure_policy::FailurePolicy;
-use crate::verdict_words::{ADMITTED, DENIED, ERRS, FAILS, FIRST_MESSAGE, REJECTED, SKIPPED};
 use Register::{R0, R1, R2, R6};
 use expression_code::helpers::{KIND, TEXT_KIND};
 use expression_code::instructions::{
@@ -18,6 +16,8 @@ use expression_code::instructions::{
 use expression_code::references::{FALSE, TRUE};
 use guest_memory::VERDICT;
 use insn_codec::{Comparison, Insn, Register, Size};
+use verdicts::FailurePolicy;
+use verdicts::verdict_words::{ADMITTED, DENIED, ERRS, FAILS, FIRST_MESSAGE, REJECTED, SKIPPED};
 
 /// The word of the verdict that counts the denials.
 const DENIALS: u64 = 1;

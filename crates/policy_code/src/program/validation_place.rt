@@ -1,6 +1,6 @@
 //! Where a validation is in its policy.
 
-use crate::failure_policy::FailurePolicy;
+use verdicts::FailurePolicy;
 
 /// The place of a validation in its policy's list, and the policy's `failurePolicy`.
 #[derive(Clone, Copy)]

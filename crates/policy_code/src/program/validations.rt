@@ -4,17 +4,17 @@ ghost use Rattle.std.specs.Prelude.{◌≡◌, ◌<◌, ◌≤◌, ◌+◌, leng
 ghost use Rattle.cel_macros.specs.CoreView.{core_view};
 ghost use Rattle.policy_code.specs.Checked.{validation_trees};
 ghost use Rattle.policy_code.specs.Emission.{with_message, with_result, with_validation, with_validations, FitsFrame, MayFit};
-ghost use Rattle.policy_code.specs.Limits.{part_limit};
+ghost use Rattle.verdicts.specs.Policy.{part_limit};
 
 use super::pieces::{put_each, put_expression};
 use super::tails::{DENIAL_SLOTS, LEAVE_SLOT, denial_code, if_true, leave_error, message_tail};
 use super::validation_place::ValidationPlace;
 use crate::checked_validation::CheckedValidation;
-use crate::failure_policy::FailurePolicy;
 use cel_macros::Core;
 use cel_types::Scope;
 use codegen::Emitter;
 use std::alloc::{AllocError, Global};
+use verdicts::FailurePolicy;
 
 /// Emits the validations.
 pub(super) fn validations(

@@ -1,7 +1,7 @@
 -- Loop invariant of `rules::rules_in`.
 
 use Rattle.admission_documents.proofs.Prelude.{drop, map, items_view, rule_view, rule_in}
-use Rattle.admission_documents.proofs.Lists.{EachGo}
+use Rattle.json_fields.proofs.Items.{EachGo}
 use Rattle.admission_documents.proofs.rules.rules_in.Given as goal
 
 abbrev pub invariant-loop-item : goal.invariant-loop-item

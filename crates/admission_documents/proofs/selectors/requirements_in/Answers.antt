@@ -4,7 +4,7 @@ use Rattle.std.proofs.Common.{[], ◌+◌, ◌∷◌}
 use Rattle.std.proofs.lemmas.List.{map-append}
 use Rattle.serde_json.specs.View.{view}
 use Rattle.admission_documents.proofs.Prelude.{◌∙◌, ap, drop, items_view, map, requirement_in, requirement_view}
-use Rattle.admission_documents.proofs.Lists.{each_next, from_place}
+use Rattle.json_fields.proofs.Items.{each_next, from_place}
 use Rattle.admission_documents.proofs.selectors.requirements_in.Goals as goal
 
 pub loop-item-preserved : goal.loop-item-preserved

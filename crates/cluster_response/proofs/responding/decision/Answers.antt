@@ -2,7 +2,7 @@
 use Rattle.std.specs.Prelude.{is_none}
 use Rattle.cluster_response.proofs.Prelude.{◌≡◌, ◌∙◌, ℕ, Bool, true, false, not, List, Option, None, Some, IfOk-weaker, codes, is_some, option_map, refl, view}
 use Rattle.serde_json.specs.Data as json
-use Rattle.cluster_response.specs.Members.{put_if}
+use Rattle.json_fields.specs.Members.{put_if}
 use Rattle.cluster_response.specs.Response.{decision_from}
 use Rattle.cluster_response.proofs.responding.decision.Goals as goal
 

@@ -8,5 +8,5 @@ pub returns : goal.returns
 returns c = λ t compiles.
     c.one_expression_names.ensures t.conditions
     (subst (λ (ns : List NamedExpression). EachReads ns t.conditions)
-    (ap (λ (p : Policy). p.conditions) (sym c.policy.view_is) ∙ ap (map named_view) (sym c.as_slice.ensures.value))
+    (ap (λ (p : Policy). p.conditions) (sym c.parts.ensures.parts) ∙ ap (map named_view) (sym c.as_slice.ensures.value))
     (compiled_reads c.args.policy.now (Ok t) t compiles refl))

@@ -1,8 +1,9 @@
 -- Proof obligations of `normal::each_validation`.
 use Rattle.std.proofs.Common.{arith}
-use Rattle.wide_policy.proofs.Members.{all_changed}
-use Rattle.wide_policy.specs.WideDocuments.{of_object, validation_members}
+use Rattle.json_fields.proofs.Items.{all_changed}
+use Rattle.json_fields.specs.Members.{in_object}
+use Rattle.wide_policy.specs.WideDocuments.{validation_members}
 use Rattle.wide_policy.proofs.normal.each_validation.Goals as goal
 
 pub returns : goal.returns
-returns c = all_changed (of_object validation_members) c.deref-item-items.result.now _ _ c.loop-item.item-index c.deref-item-items.ensures.value c.loop-item-test.false c.loop-item.invariant
+returns c = all_changed (in_object validation_members) c.deref-item-items.result.now _ _ c.loop-item.item-index c.deref-item-items.ensures.value c.loop-item-test.false c.loop-item.invariant

@@ -1,8 +1,9 @@
 -- Loop invariant of `normal::each_validation`.
 use Rattle.std.proofs.Common.{◌≡◌, map, take}
 use Rattle.serde_json.specs.View.{view}
-use Rattle.wide_policy.specs.WideDocuments.{of_object, validation_members}
+use Rattle.json_fields.specs.Members.{in_object}
+use Rattle.wide_policy.specs.WideDocuments.{validation_members}
 use Rattle.wide_policy.proofs.normal.each_validation.Given as goal
 
 abbrev pub invariant-loop-item : goal.invariant-loop-item
-invariant-loop-item l = map view l.each.items ≡ map (λ v. of_object validation_members (view v)) (take l.item-index l.item-items)
+invariant-loop-item l = map view l.each.items ≡ map (λ v. in_object validation_members (view v)) (take l.item-index l.item-items)

@@ -1,0 +1,4 @@
+-- The proofs of `json_fields`.
+pub mod Items
+pub mod Removing
+pub mod Read

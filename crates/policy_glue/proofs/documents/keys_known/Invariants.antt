@@ -1,7 +1,0 @@
--- Loop invariant of `documents::keys_known`.
-
-use Rattle.policy_glue.proofs.Prelude.{◌≡◌, map, members_view, keys_within}
-use Rattle.policy_glue.proofs.documents.keys_known.Given as goal
-
-abbrev pub invariant-loop-key : goal.invariant-loop-key
-invariant-loop-key l = keys_within (map (λ s. s.now) l.known) (members_view l.initial.key-iterator) ≡ keys_within (map (λ s. s.now) l.known) (members_view l.key-iterator)

@@ -1,7 +1,0 @@
--- Loop invariant of `escaping::added`.
-
-use Rattle.policy_glue.proofs.Escapes.{IsAdded}
-use Rattle.policy_glue.proofs.escaping.added.Given as goal
-
-abbrev pub invariant-loop-byte : goal.invariant-loop-byte
-invariant-loop-byte l = IsAdded l.text l.byte-index l.more

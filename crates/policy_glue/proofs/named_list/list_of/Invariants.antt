@@ -1,8 +1,0 @@
--- Loop invariant of `named_list::list_of`.
-
-use Rattle.policy_glue.proofs.Prelude.{drop, map, items_view, named_view, named_in}
-use Rattle.policy_glue.proofs.Lists.{EachGo}
-use Rattle.policy_glue.proofs.named_list.list_of.Given as goal
-
-abbrev pub invariant-loop-item : goal.invariant-loop-item
-invariant-loop-item l = EachGo (named_in l.rule) (items_view l.item-items) (items_view (drop l.item-index l.item-items)) (map named_view l.list.items)

@@ -1,8 +1,0 @@
--- Proofs of `rejecting::rejection_of`: the result meets the contract.
-
-use Rattle.policy_glue.proofs.Prelude.{sym, option_map, IfOk-weaker, words_view, rejection_view}
-use Rattle.policy_glue.proofs.Told.{objected}
-use Rattle.policy_glue.proofs.rejecting.rejection_of.Goals as goal
-
-pub returns : goal.returns
-returns c = λ v told. IfOk-weaker c.rejection_by.result _ _ (λ said here. objected c.policy.inside.parts c.args.policy.now v (words_view c.args.verdict.now) (option_map rejection_view said) (sym c.policy.view_is) c.policy.invariant told here) c.rejection_by.ensures
