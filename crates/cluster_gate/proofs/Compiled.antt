@@ -1,5 +1,5 @@
 -- Documents of policies as they are compiled: no deeper, with the specification and the failure policy of the state.
-use Rattle.std.proofs.Common.{◌≡◌, ◌∙◌, ◌≤◌, ℕ, Bool, true, false, List, [], ◌∷◌, Option, Some, None, Ordering, Less, Equal, Greater, ap, arith, map, option_map, refl, sym, true≢false, if◌then◌else◌}
+use Rattle.std.proofs.Common.{◌≡◌, ◌∙◌, ◌≤◌, ℕ, Bool, true, false, List, [], ◌∷◌, Option, Some, None, Ordering, Less, Equal, Greater, ap, arith, option_map, refl, sym, true≢false, if◌then◌else◌}
 use Rattle.std.proofs.lemmas.Map.Text.{is_eq-slice_cmp}
 use Rattle.std.proofs.lemmas.Slice.Eq.{bytes_eq-Decides}
 use Rattle.std.specs.Cmp.Lexicographic.{slice_cmp}
@@ -8,18 +8,11 @@ use Rattle.std.specs.Ordering.{is_eq, match_ordering, nat_cmp}
 use Rattle.std.specs.Prelude.{bytes_eq, codes, is_none, ◌||◌}
 use Rattle.serde_json.specs.Data as json
 use Rattle.serde_json.specs.Find.{get, get_member}
-use Rattle.serde_json.specs.View.{items_of, items_view, view}
-use Rattle.serde_json.specs.declared.value.Value.{Value}
 use Rattle.serde_json.proofs.Views.{get_member-put, get_member-put_other}
 use Rattle.policy_glue.specs.Reading.{spec_keys, validation_keys}
-use Rattle.admission_documents.specs.Documents.{present}
-use Rattle.cluster_gate.specs.CompiledDocuments.{changed, compiled_document, compiled_validation, each_changed, in_array, in_object, others, policy_members, put_if, spec_members, without_null, without_nulls}
-
--- ---- items
-
-pub each_changed-items_view : (f : json.Data → json.Data) (vs : List Value) → items_of (map (λ v. f (view v)) vs) ≡ each_changed f (items_view vs)
-each_changed-items_view f [] = refl
-each_changed-items_view f (v ∷ vs) = ap (json.item (f (view v))) (each_changed-items_view f vs)
+use Rattle.json_fields.specs.Fields.{present}
+use Rattle.json_fields.specs.Members.{each_changed, in_array, in_object, others, put_if, without_null, without_nulls}
+use Rattle.cluster_gate.specs.CompiledDocuments.{compiled_document, compiled_validation, policy_members, spec_members}
 
 -- ---- depth
 

@@ -9,13 +9,13 @@ use Rattle.value_store.specs.Documents.{equals_string}
 use Rattle.policy_glue.specs.Policy.{NamedExpression, Policy, Validation}
 use Rattle.policy_glue.specs.Reading.{failure_in, has_head, has_spec_form, has_top_form, judged, named_list_in, policy_in, policy_of, policy_parts_in, spec_in, spec_parts, validation_in}
 use Rattle.policy_glue.specs.declared.name_rule.NameRule.TheVariants.{NotEmpty, Identifier}
-use Rattle.policy_glue.specs.Documents.{list_in}
 use Rattle.policy_glue.specs.declared.failure_policy.FailurePolicy.{FailurePolicy, TheVariants.Fail, TheVariants.Ignore}
 use Rattle.policy_glue.specs.declared.policy_error.PolicyError.{PolicyError, TheVariants.InvalidField, TheVariants.MessageWithLineBreak, TheVariants.NoValidations, TheVariants.NotAPolicy, TheVariants.NotJson, TheVariants.TooManyParts}
-use Rattle.admission_documents.specs.Documents.{field, field_of, present}
+use Rattle.json_fields.specs.Fields.{field, field_of, list_in, present}
+use Rattle.json_fields.specs.Members.{in_object}
 use Rattle.cluster_plan.specs.Steps.{fails_closed}
 use Rattle.value_store.specs.Documents.{document_of}
-use Rattle.wide_policy.specs.WideDocuments.{has_audit_annotations, normal_document, normal_spec, of_object, wide_policy_in, wide_policy_of, with_read_error}
+use Rattle.wide_policy.specs.WideDocuments.{has_audit_annotations, normal_document, normal_spec, wide_policy_in, wide_policy_of, with_read_error}
 use Rattle.wide_policy.specs.declared.wide_policy_error.WidePolicyError.TheVariants.{HasAuditAnnotations, Unread}
 use Rattle.admission.specs.Deciding.{IsSaid}
 use Rattle.admission.specs.declared.language.Language.{Language, TheVariants.Profile, TheVariants.Wide}
@@ -23,7 +23,7 @@ use Rattle.cluster_gate.proofs.Compiled.{failure_compiled, spec_compiled}
 use Rattle.cluster_gate.proofs.Normal.{failure_normal, spec_normal}
 use Rattle.cluster_gate.proofs.SameReading.{compiled_shallow}
 use Rattle.cluster_gate.specs.Laws.{FailsClosedAsCompiled, denies_errors}
-use Rattle.cluster_gate.specs.CompiledDocuments.{compiled_document, in_object, spec_members}
+use Rattle.cluster_gate.specs.CompiledDocuments.{compiled_document, spec_members}
 
 -- ---- what a policy is read from
 
@@ -146,7 +146,7 @@ shown (json.object ms) e = refl
 
 -- the specification as it is read
 abbrev wide_spec : json.Data → json.Data
-wide_spec s = of_object normal_spec (in_object spec_members s)
+wide_spec s = in_object normal_spec (in_object spec_members s)
 
 wide_shown : (d : json.Data) → has_spec_form (wide_spec d) ≡ true → present (Some d) ≡ Some d
 unfolding has_spec_form
@@ -176,8 +176,8 @@ option_map_twice f g (Some d) = refl
 
 wide_made : (d : json.Data) → get (codes "spec") (normal_document (compiled_document d)) ≡ option_map wide_spec (get (codes "spec") d)
 wide_made d =
-    spec_normal (compiled_document d) ∙ ap (option_map (of_object normal_spec)) (spec_compiled d)
-    ∙ option_map_twice (of_object normal_spec) (in_object spec_members) (get (codes "spec") d)
+    spec_normal (compiled_document d) ∙ ap (option_map (in_object normal_spec)) (spec_compiled d)
+    ∙ option_map_twice (in_object normal_spec) (in_object spec_members) (get (codes "spec") d)
 
 taken_by : (b : Bool) (r : Result Policy PolicyError) (q : Policy) → (if b then Err HasAuditAnnotations else with_read_error r) ≡ Ok q → r ≡ Ok q
 taken_by true r q e = absurd (cc)

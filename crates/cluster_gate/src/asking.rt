@@ -18,7 +18,7 @@ use crate::policy_run::PolicyRun;
 use crate::refusing::refuse;
 use crate::standing::Standing;
 use admission_match::{Answer, Trouble};
-use cluster_plan::{AskedPolicy, fails_closed, trouble_text};
+use cluster_plan::{AskedPolicy, trouble_text};
 use cluster_response::{ClusterRefusal, Events};
 use cluster_state::{Binding, Policy, State};
 use std::alloc::{AllocError, Global};
@@ -63,7 +63,7 @@ fn ask_in_trouble(
     ensures { IfOk result (λ u. (p : BoundPolicy) → policy_view policy.now ≡ p → AddsTrouble p (request_view case.now.request.now) trouble events.old events.new) }
 {
     let request = case.request;
-    if !fails_closed(policy.document) {
+    if !policy.fails_closed() {
         return Ok(());
     }
     let message = trouble_text(alloc, trouble, request.attributes.namespace)?;

@@ -44,16 +44,11 @@ pub(crate) fn evaluate<'a>(
         return evaluate_alone(alloc, gate, case, params, namespace);
     };
     match opened.table_by(alloc, params, namespace, &case.place) {
-        Ok(table) => evaluate_on(gate, case, Ok(table)),
-        Err(ReviewError::RootRefused(place)) => {
-            evaluate_on(gate, case, Err(ReviewError::RootRefused(place)))
-        }
-        Err(ReviewError::ChargeTooLarge) => {
-            evaluate_on(gate, case, Err(ReviewError::ChargeTooLarge))
-        }
         Err(ReviewError::Memory) => Err(AllocError),
-        Err(ReviewError::InvalidReview) => evaluate_alone(alloc, gate, case, params, namespace),
-        Err(ReviewError::InvalidDocument) => evaluate_alone(alloc, gate, case, params, namespace),
+        Err(ReviewError::InvalidReview | ReviewError::InvalidDocument) => {
+            evaluate_alone(alloc, gate, case, params, namespace)
+        }
+        table => evaluate_on(gate, case, table),
     }
 }
 

@@ -75,7 +75,7 @@ impl<'a> KeptBases<'a> {
     fn first(&self, state: &State<'a>, name: &str) -> Result<Base<'a>, AllocError> {
         let base = Base::of(self.alloc, self.empty.copy()?, name.len());
         match state.namespace(name) {
-            Some(document) => base.with_document(self.alloc, document),
+            Some(document) => base.with_document(self.alloc, document.value),
             None => Ok(base),
         }
     }

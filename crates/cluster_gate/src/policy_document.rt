@@ -1,12 +1,12 @@
 //! Documents of policies as they are compiled.
-ghost use Rattle.std.specs.Prelude.{◌≡◌, ◌∷◌, codes, is_none, map, option_map, IfOk};
-ghost use Rattle.serde_json.specs.Find.{get_member};
+ghost use Rattle.std.specs.Prelude.{◌≡◌, ◌∷◌, codes, IfOk};
 ghost use Rattle.serde_json.specs.View.{items_view, members_view, view};
+ghost use Rattle.json_fields.specs.Members.{each_changed, in_array, in_object, without_nulls};
 ghost use Rattle.policy_glue.specs.Reading.{spec_keys, validation_keys};
-ghost use Rattle.admission_documents.specs.Documents.{present};
-ghost use Rattle.cluster_gate.specs.CompiledDocuments.{compiled_document, compiled_validation, each_changed, in_array, in_object, others, policy_members, put_if, spec_members, without_null, without_nulls};
+ghost use Rattle.cluster_gate.specs.CompiledDocuments.{compiled_document, compiled_validation, policy_members, spec_members};
 
-use serde_json::{Map, Value, put};
+use json_fields::{member, others, put_if, without_nulls};
+use serde_json::{Map, Value};
 use std::alloc::{AllocError, Global};
 
 /// The document of a policy without its `status`, and without the fields that are null.
@@ -56,7 +56,7 @@ fn spec_members(
     put_if(alloc, members, "validations", validations)
 }
 
-#[tactic(auto, unfolding(policy_glue::specs::Reading::spec_keys))]
+#[tactic(auto, unfolding(verdicts::specs::Reading::spec_keys))]
 fn without_spec_nulls(members: Map<String, Value>) -> Map<String, Value>
     ensures { members_view result.entries ≡ without_nulls (codes "auditAnnotations" ∷ spec_keys) (members_view members.entries) }
 {
@@ -100,67 +100,10 @@ fn compiled_validation(validation: &Value) -> Result<Value, AllocError>
     }
 }
 
-#[tactic(auto, unfolding(policy_glue::specs::Reading::validation_keys))]
+#[tactic(auto, unfolding(verdicts::specs::Reading::validation_keys))]
 fn without_validation_nulls(members: Map<String, Value>) -> Map<String, Value>
     ensures { members_view result.entries ≡ without_nulls validation_keys (members_view members.entries) }
 {
     let keys = ["expression", "message", "messageExpression", "reason"];
     without_nulls(members, &keys)
-}
-
-/// The members without those of these keys whose values are null.
-fn without_nulls(members: Map<String, Value>, keys: &[&str]) -> Map<String, Value>
-    ensures { members_view result.entries ≡ without_nulls (map (λ s. s.now) keys.now) (members_view members.entries) }
-{
-    match keys {
-        [] => members,
-        [first, rest @ ..] => without_nulls(without_null(members, first), rest),
-    }
-}
-
-fn without_null(members: Map<String, Value>, key: &str) -> Map<String, Value>
-    ensures { members_view result.entries ≡ without_null key.now (members_view members.entries) }
-{
-    if is_absent(&members, key) {
-        return others(members, key);
-    }
-    members
-}
-
-fn is_absent(members: &Map<String, Value>, key: &str) -> bool
-    ensures { result ≡ is_none (present (get_member key.now (members_view members.now.entries))) }
-{
-    match member(members, key) {
-        None | Some(Value::Null) => true,
-        Some(_) => false,
-    }
-}
-
-fn others(members: Map<String, Value>, key: &str) -> Map<String, Value>
-    ensures { members_view result.entries ≡ others key.now (members_view members.entries) }
-{
-    let mut members = members;
-    let _value = members.remove(key);
-    members
-}
-
-fn member<'v>(members: &'v Map<String, Value>, key: &str) -> Option<&'v Value>
-    ensures { option_map (λ v. view v.now) result ≡ get_member key.now (members_view members.now.entries) }
-{
-    members.get(key)
-}
-
-fn put_if(
-    alloc: Global,
-    members: Map<String, Value>,
-    key: &str,
-    value: Option<Value>,
-) -> Result<Map<String, Value>, AllocError>
-    ensures { IfOk result (λ m. members_view m.entries ≡ put_if key.now (option_map view value) (members_view members.entries)) }
-{
-    let mut members = members;
-    if let Some(value) = value {
-        put(&mut members, alloc, key, value)?;
-    }
-    Ok(members)
 }

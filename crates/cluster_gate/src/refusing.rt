@@ -4,7 +4,6 @@ ghost use Rattle.cluster_state.specs.Policies.{policy_view};
 ghost use Rattle.cluster_gate.specs.Dispatch.{undecided_event};
 ghost use Rattle.cluster_gate.specs.Running.{Adds};
 
-use cluster_plan::fails_closed;
 use cluster_response::{ClusterRefusal, Events};
 use cluster_state::Policy;
 use std::alloc::{AllocError, Global};
@@ -18,7 +17,6 @@ pub(crate) fn refuse(
 ) -> Result<(), AllocError>
     ensures { IfOk result (λ u. Adds events.old events.new (undecided_event (policy_view policy.now) refusal ∷ [])) }
 {
-    let is_closed = fails_closed(policy.document);
-    events.refuse(alloc, policy.name, is_closed, refusal)?;
+    events.refuse(alloc, policy.name, policy.fails_closed(), refusal)?;
     Ok(())
 }

@@ -51,7 +51,7 @@ impl<'a> Cluster<'_, 'a> {
         ensures { IsAtIf opened.now result (namespace_named name.now (state_view self.now.state.now).objects) }
     {
         match self.state.namespace(name) {
-            Some(document) => opened.namespace_place(self.alloc, document),
+            Some(document) => opened.namespace_place(self.alloc, document.value),
             None => None,
         }
     }

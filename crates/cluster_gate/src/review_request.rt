@@ -3,10 +3,10 @@ ghost use Rattle.std.specs.Prelude.{◌≡◌, codes, option_and_then, option_ma
 ghost use Rattle.serde_json.specs.Data.{object, string};
 ghost use Rattle.serde_json.specs.Find.{get_member};
 ghost use Rattle.serde_json.specs.View.{view};
-ghost use Rattle.value_store.specs.Documents.{equals_string};
 ghost use Rattle.value_store.specs.Reviews.{is_review, members_in, request_of};
 ghost use Rattle.cluster_gate.specs.Dispatch.{request_document};
 
+use json_fields::equals_string;
 use serde_json::Value;
 
 /// The request of a review, borrowed from its document.
@@ -35,16 +35,6 @@ fn is_review(document: &Value) -> bool
     let version = equals_string(document.get("apiVersion"), "admission.k8s.io/v1");
     let kind = equals_string(document.get("kind"), "AdmissionReview");
     version && kind
-}
-
-/// Whether the value is this text.
-fn equals_string(value: Option<&Value>, text: &str) -> bool
-    ensures { result ≡ equals_string (option_map (λ v. view v.now) value.entry) text.now }
-{
-    match value {
-        Some(Value::String(found)) => found.as_str() == text,
-        _ => false,
-    }
 }
 
 /// The request, if it is an object whose `uid` is a text.

@@ -17,7 +17,7 @@ use crate::progress::Progress;
 use crate::refusing::refuse;
 use cluster_plan::Step;
 use cluster_response::{ClusterRefusal, Events};
-use cluster_state::Binding;
+use cluster_state::{Binding, Document};
 use serde_json::Value;
 use std::alloc::AllocError;
 
@@ -71,13 +71,15 @@ impl<'a> PolicyRun<'_, '_, '_, '_, 'a> {
         &self,
         events: &mut Events,
         binding: &Binding<'_>,
-        params: Option<&'a Value>,
-        namespace: Option<&'a Value>,
+        params: Option<Document<'a>>,
+        namespace: Option<Document<'a>>,
     ) -> Result<Progress, AllocError>
-        requires { IsBesideIf self.now.case.now.opened self.now.case.now.place (option_map (λ v. view v.now) namespace) }
+        requires { IsBesideIf self.now.case.now.opened self.now.case.now.place (option_map (λ d. view d.value.now) namespace) }
         ensures { IfOk result (λ progress. (l : Language) (p : BoundPolicy) → IsRunOf l p self.now
-            → AddsStep l p self.now (evaluates (binding_view binding.now) (option_map (λ v. view v.now) params.entry) (option_map (λ v. view v.now) namespace.entry)) events.old events.new progress) }
+            → AddsStep l p self.now (evaluates (binding_view binding.now) (option_map (λ d. view d.value.now) params.entry) (option_map (λ d. view d.value.now) namespace.entry)) events.old events.new progress) }
     {
+        let params = value_of(params);
+        let namespace = value_of(namespace);
         match evaluate(self.alloc, self.gate, self.case, params, namespace)? {
             Ok(findings) => {
                 let name = self.policy.name;
@@ -94,5 +96,15 @@ impl<'a> PolicyRun<'_, '_, '_, '_, 'a> {
     {
         refuse(self.alloc, self.policy, refusal, events)?;
         Ok(Progress::NextBinding)
+    }
+}
+
+/// The value of a document, if there is one.
+fn value_of<'a>(document: Option<Document<'a>>) -> Option<&'a Value>
+    ensures { option_map (λ v. view v.now) result ≡ option_map (λ d. view d.value.now) document.entry }
+{
+    match document {
+        Some(document) => Some(document.value),
+        None => None,
     }
 }

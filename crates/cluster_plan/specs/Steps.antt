@@ -1,26 +1,26 @@
 -- What a policy of a cluster does with a request, step by step (Kubernetes, dispatch of ValidatingAdmissionPolicies). The
 -- policy's expressions are not evaluated here.
-use Rattle.std.specs.Prelude.{◌≡◌, ℕ, Vec, Bool, true, false, not, List, [], ◌∷◌, map, Option, Some, None, Result, Ok, Err, codes, option_map, string_bytes}
-use Rattle.std.specs.Borrow.{Bor}
+use Rattle.std.specs.Prelude.{◌≡◌, ℕ, Vec, Bool, true, false, List, [], ◌∷◌, map, Option, Some, None, Result, Ok, Err, IfSome, codes, option_map, string_bytes}
 use Rattle.std.specs.List.{concat}
 use Rattle.std.specs.declared.alloc.Global.{Global}
 use Rattle.serde_json.specs.Data as json
 use Rattle.serde_json.specs.View.{view}
-use Rattle.serde_json.specs.declared.value.Value.{Value}
-use Rattle.value_store.specs.Documents.{equals_string}
 use Rattle.admission_match.specs.Matching.{match_answer}
 use Rattle.admission_match.specs.declared.answer.Answer.{Answer}
 use Rattle.admission_match.specs.declared.answer.Answer.TheVariants as matching
 use Rattle.admission_match.specs.declared.trouble.Trouble.{Trouble}
 use Rattle.admission_match.specs.declared.trouble.Trouble.TheVariants.{NoName, NotFound}
-use Rattle.admission_documents.specs.Documents.{field, field_of}
 use Rattle.admission_documents.specs.Requests.{Request}
 use Rattle.cluster_state.specs.Bindings.{Binding, ParamRef, binding_view}
 pub use Rattle.cluster_state.specs.Bindings.{bindings_of}
+use Rattle.cluster_state.specs.Items.{Item}
+use Rattle.cluster_state.specs.Numbers.{IsNumbered}
 use Rattle.cluster_state.specs.Objects.{Objects}
 use Rattle.cluster_state.specs.Params.{KnownKind, NamespaceObject, known_kind_view, missing, namespace_labels, namespace_object, no_object, object, param_error_text, params_of}
 use Rattle.cluster_state.specs.Policies.{BoundPolicy, policy_view}
+unfoldable pub use Rattle.cluster_state.specs.Policies.{fails_closed}
 use Rattle.cluster_state.specs.State.{ClusterState}
+use Rattle.cluster_state.specs.declared.document.Document.{Document}
 use Rattle.cluster_state.specs.declared.param_error.ParamError.{ParamError}
 use Rattle.cluster_state.specs.declared.param_error.ParamError.TheVariants as params_error
 use Rattle.cluster_state.specs.declared.param_error.ParamError.TheVariants.{ClusterScopedRequest, NeedlessNamespace, Memory}
@@ -53,10 +53,6 @@ pub record AskedPolicy : Type 0 where
   pub kind : Option KnownKind
 
 -- ---- configuration errors
-
--- the policy's `failurePolicy` is not `Ignore`
-unfoldable pub fails_closed : json.Data → Bool
-fails_closed d = not (equals_string (field_of (codes "failurePolicy") (field (codes "spec") d)) (codes "Ignore"))
 
 -- what the API server says of a namespace that is not there (apimachinery, NewNotFound)
 unfoldable pub absent_text : List ℕ → List ℕ
@@ -138,8 +134,8 @@ policy_steps s p block q =
 -- ---- the code's
 
 -- the params are found, or the first error; or an allocation failed
-abbrev pub FindsParams : Result (List (Option json.Data)) ParamError → Result (Vec (Option (Bor Value)) Global) ParamError → Type 0
-FindsParams due (Ok v) = due ≡ Ok (map (option_map (λ d. view d.now)) v.items)
+abbrev pub FindsParams : Result (List (Option json.Data)) ParamError → Result (Vec (Option Document) Global) ParamError → Type 0
+FindsParams due (Ok v) = due ≡ Ok (map (option_map (λ d. view d.value.now)) v.items)
 FindsParams due (Err ClusterScopedRequest) = due ≡ Err ClusterScopedRequest
 FindsParams due (Err NeedlessNamespace) = due ≡ Err NeedlessNamespace
 FindsParams due (Err params_error.NotFound) = due ≡ Err params_error.NotFound
@@ -152,5 +148,20 @@ abbrev pub step_view : CodeStep → PlannedStep
 step_view (code.Denial binding message) = denies (option_map (λ s. s.now) binding) (string_bytes message)
 step_view code.UnknownMatch = unknown_match
 step_view (code.Evaluation binding params namespace) =
-    evaluates (binding_view binding.now) (option_map (λ d. view d.now) params) (option_map (λ d. view d.now) namespace)
+    evaluates (binding_view binding.now) (option_map (λ d. view d.value.now) params) (option_map (λ d. view d.value.now) namespace)
 step_view code.NamespaceNotFound = ends
+
+-- the document has the number of its item, if there is one
+abbrev pub IsNumberedIf : List Item → Option Document → Type 0
+IsNumberedIf is d = IfSome d (IsNumbered is)
+
+-- the params and the namespace of an evaluation
+abbrev pub step_documents : CodeStep → Option Document × Option Document
+step_documents (code.Evaluation binding params namespace) = (params, namespace)
+step_documents (code.Denial binding message) = (None, None)
+step_documents code.UnknownMatch = (None, None)
+step_documents code.NamespaceNotFound = (None, None)
+
+-- they have the numbers of their items
+abbrev pub IsNumberedStep : List Item → CodeStep → Type 0
+IsNumberedStep is s = IsNumberedIf is (step_documents s).0 × IsNumberedIf is (step_documents s).1

@@ -10,4 +10,4 @@ mod steps;
 pub use asked_policy::AskedPolicy;
 pub use quotes::go_quoted;
 pub use step::Step;
-pub use steps::{absent_text, fails_closed, trouble_text};
+pub use steps::{absent_text, trouble_text};

@@ -1,7 +1,6 @@
 //! Steps of policies.
 
-use cluster_state::Binding;
-use serde_json::Value;
+use cluster_state::{Binding, Document};
 
 /// A step of a policy with a request.
 #[derive(Debug, Drop)]
@@ -17,8 +16,8 @@ pub enum Step<'s, 'a> {
     /// the binding tells its findings.
     Evaluation {
         binding: &'s Binding<'a>,
-        params: Option<&'a Value>,
-        namespace: Option<&'a Value>,
+        params: Option<Document<'a>>,
+        namespace: Option<Document<'a>>,
     },
     /// The namespace of the request is not found, which ends the dispatch.
     NamespaceNotFound,

@@ -1,20 +1,21 @@
 //! The steps of a policy with a request.
-ghost use Rattle.std.specs.Prelude.{◌≡◌, [], ◌∷◌, codes, None, Some, IfOk, map, option_map, string_bytes};
+ghost use Rattle.std.specs.Prelude.{◌≡◌, [], ◌∷◌, List, None, Some, IfOk, map, option_map, string_bytes};
+ghost use Rattle.std.specs.List.{All};
 ghost use Rattle.serde_json.specs.View.{view};
 ghost use Rattle.admission_documents.specs.Requests.{request_view};
 ghost use Rattle.cluster_state.specs.Bindings.{binding_view};
+ghost use Rattle.cluster_state.specs.Items.{Item};
+ghost use Rattle.cluster_state.specs.Numbers.{IsNumberedNamespace};
 ghost use Rattle.cluster_state.specs.Params.{namespace_object_view, param_error_text};
-ghost use Rattle.value_store.specs.Documents.{equals_string};
 ghost use Rattle.cluster_state.specs.State.{state_view};
-ghost use Rattle.cluster_plan.specs.Steps.{binding_steps, absent_text, error_steps, evaluates, evaluations, fails_closed, params_for, FindsParams, asked_view, matched_steps, step_view, trouble_text};
+ghost use Rattle.cluster_plan.specs.Steps.{binding_steps, absent_text, error_steps, evaluates, evaluations, fails_closed, params_for, FindsParams, IsNumberedIf, IsNumberedStep, asked_view, matched_steps, step_documents, step_view, trouble_text};
 
 use crate::asked_policy::AskedPolicy;
 use crate::quotes::go_quoted;
 use crate::step::Step;
-use admission_documents::{Request, field};
+use admission_documents::Request;
 use admission_match::{Answer, Trouble};
-use cluster_state::{Binding, NamespaceObject, ParamError, State};
-use serde_json::Value;
+use cluster_state::{Binding, Document, NamespaceObject, ParamError, State};
 use std::alloc::{AllocError, Global};
 
 impl<'a> AskedPolicy<'_, 'a> {
@@ -27,7 +28,8 @@ impl<'a> AskedPolicy<'_, 'a> {
         request: &Request<'_>,
         binding: &'s Binding<'a>,
     ) -> Result<Vec<Step<'s, 'a>>, AllocError>
-        ensures { IfOk result (λ v. map step_view v.items ≡ binding_steps (state_view state.now) (asked_view self.now) (request_view request.now) (binding_view binding.now)) }
+        ensures steps { IfOk result (λ v. map step_view v.items ≡ binding_steps (state_view state.now) (asked_view self.now) (request_view request.now) (binding_view binding.now)) }
+        ensures numbered { IfOk result (λ v. All (IsNumberedStep (state_view state.now).items) v.items) }
     {
         match binding.resources.matches(&request.attributes, state) {
             Answer::No => Ok(Vec::new(alloc)),
@@ -50,7 +52,8 @@ impl<'a> AskedPolicy<'_, 'a> {
         request: &Request<'_>,
         binding: &'s Binding<'a>,
     ) -> Result<Vec<Step<'s, 'a>>, AllocError>
-        ensures { IfOk result (λ v. map step_view v.items ≡ matched_steps (state_view state.now) (asked_view self.now) (request_view request.now) (binding_view binding.now)) }
+        ensures steps { IfOk result (λ v. map step_view v.items ≡ matched_steps (state_view state.now) (asked_view self.now) (request_view request.now) (binding_view binding.now)) }
+        ensures numbered { IfOk result (λ v. All (IsNumberedStep (state_view state.now).items) v.items) }
     {
         let name = request.attributes.namespace;
         match self.params(alloc, state, binding, name) {
@@ -59,15 +62,7 @@ impl<'a> AskedPolicy<'_, 'a> {
                 evaluations(alloc, binding, namespace, params.as_slice())
             }
             Err(ParamError::Memory) => Err(AllocError),
-            Err(ParamError::ClusterScopedRequest) => {
-                self.param_error_steps(alloc, binding, ParamError::ClusterScopedRequest)
-            }
-            Err(ParamError::NeedlessNamespace) => {
-                self.param_error_steps(alloc, binding, ParamError::NeedlessNamespace)
-            }
-            Err(ParamError::NotFound) => {
-                self.param_error_steps(alloc, binding, ParamError::NotFound)
-            }
+            Err(error) => self.param_error_steps(alloc, binding, error),
         }
     }
 
@@ -78,8 +73,9 @@ impl<'a> AskedPolicy<'_, 'a> {
         state: &State<'a>,
         binding: &Binding<'a>,
         namespace: &str,
-    ) -> Result<Vec<Option<&'a Value>>, ParamError>
-        ensures { FindsParams (params_for (state_view state.now).objects (asked_view self.now).kind (binding_view binding.now).param_ref namespace.now) result }
+    ) -> Result<Vec<Option<Document<'a>>>, ParamError>
+        ensures found { FindsParams (params_for (state_view state.now).objects (asked_view self.now).kind (binding_view binding.now).param_ref namespace.now) result }
+        ensures numbered { IfOk result (λ v. All (IsNumberedIf (state_view state.now).items) v.items) }
     {
         match &self.kind {
             None => Ok(null_alone(alloc)?),
@@ -129,31 +125,11 @@ impl<'a> AskedPolicy<'_, 'a> {
     ) -> Result<Vec<Step<'s, 'a>>, AllocError>
         ensures { IfOk result (λ v. map step_view v.items ≡ error_steps (fails_closed (asked_view self.now).policy.document) (option_map (λ s. s.now) binding.entry) message.now) }
     {
-        if fails_closed(self.policy.document) {
+        if self.policy.fails_closed() {
             let message = String::from_str(alloc, message)?;
             return one_step(alloc, Step::Denial { binding, message });
         }
         Ok(Vec::new(alloc))
-    }
-}
-
-/// Whether the policy's `failurePolicy` is not `Ignore`.
-#[tactic(auto, unfolding(crate::specs::Steps::fails_closed))]
-pub fn fails_closed(document: &Value) -> bool
-    ensures { result ≡ fails_closed (view document.now) }
-{
-    match field(document, "spec") {
-        Some(spec) => !is_ignore(field(spec, "failurePolicy")),
-        None => true,
-    }
-}
-
-fn is_ignore(value: Option<&Value>) -> bool
-    ensures { result ≡ equals_string (option_map (λ v. view v.now) value.entry) (codes "Ignore") }
-{
-    match value {
-        Some(Value::String(found)) => found.as_str() == "Ignore",
-        _ => false,
     }
 }
 
@@ -179,7 +155,7 @@ pub fn absent_text(alloc: Global, namespace: &str) -> Result<String, AllocError>
     ["namespaces ", name.as_str(), " not found"].concat(alloc)
 }
 
-fn null_alone<'a>(alloc: Global) -> Result<Vec<Option<&'a Value>>, AllocError>
+fn null_alone<'a>(alloc: Global) -> Result<Vec<Option<Document<'a>>>, AllocError>
     ensures { IfOk result (λ v. v.items ≡ None ∷ []) }
 {
     let mut params = Vec::new(alloc);
@@ -189,8 +165,8 @@ fn null_alone<'a>(alloc: Global) -> Result<Vec<Option<&'a Value>>, AllocError>
 
 fn each_given<'a>(
     alloc: Global,
-    objects: &[&'a Value],
-) -> Result<Vec<Option<&'a Value>>, AllocError>
+    objects: &[Document<'a>],
+) -> Result<Vec<Option<Document<'a>>>, AllocError>
     ensures { IfOk result (λ v. v.items ≡ map Some objects.now) }
 {
     let mut params = Vec::new(alloc);
@@ -205,9 +181,10 @@ fn evaluations<'s, 'a>(
     alloc: Global,
     binding: &'s Binding<'a>,
     namespace: NamespaceObject<'a>,
-    params: &[Option<&'a Value>],
+    params: &[Option<Document<'a>>],
 ) -> Result<Vec<Step<'s, 'a>>, AllocError>
-    ensures { IfOk result (λ v. map step_view v.items ≡ evaluations (binding_view binding.now) (namespace_object_view namespace.entry) (map (option_map (λ d. view d.now)) params.now)) }
+    ensures steps { IfOk result (λ v. map step_view v.items ≡ evaluations (binding_view binding.now) (namespace_object_view namespace.entry) (map (option_map (λ d. view d.value.now)) params.now)) }
+    ensures numbered { (is : List Item) → IsNumberedNamespace is namespace.entry → All (IsNumberedIf is) params.now → IfOk result (λ v. All (IsNumberedStep is) v.items) }
 {
     match namespace {
         NamespaceObject::Null => evaluations_in(alloc, binding, None, params),
@@ -219,11 +196,12 @@ fn evaluations<'s, 'a>(
 fn evaluations_in<'s, 'a>(
     alloc: Global,
     binding: &'s Binding<'a>,
-    namespace: Option<&'a Value>,
-    params: &[Option<&'a Value>],
+    namespace: Option<Document<'a>>,
+    params: &[Option<Document<'a>>],
 ) -> Result<Vec<Step<'s, 'a>>, AllocError>
-    ensures { let documents = map (option_map (λ d. view d.now)) params.now in
-        IfOk result (λ v. map step_view v.items ≡ map (λ p. evaluates (binding_view binding.now) p (option_map (λ d. view d.now) namespace.entry)) documents) }
+    ensures steps { let documents = map (option_map (λ d. view d.value.now)) params.now in
+        IfOk result (λ v. map step_view v.items ≡ map (λ p. evaluates (binding_view binding.now) p (option_map (λ d. view d.value.now) namespace.entry)) documents) }
+    ensures documents { IfOk result (λ v. map step_documents v.items ≡ map (λ p. (p, namespace.entry)) params.now) }
 {
     let mut steps = Vec::new(alloc);
     for given in params {
@@ -237,7 +215,7 @@ fn evaluations_in<'s, 'a>(
 }
 
 fn one_step<'s, 'a>(alloc: Global, step: Step<'s, 'a>) -> Result<Vec<Step<'s, 'a>>, AllocError>
-    ensures { IfOk result (λ v. map step_view v.items ≡ step_view step.entry ∷ []) }
+    ensures { IfOk result (λ v. v.items ≡ step.entry ∷ []) }
 {
     let mut steps = Vec::new(alloc);
     steps.push(step)?;

@@ -1,5 +1,5 @@
 -- Bindings and policies are read one after another.
-use Rattle.cluster_state.proofs.Prelude.{◌++◌, append_assoc, sym, true, Some, policy_before, policy_in, LabelSelector, chosen, by_labels, ◌≡◌, ◌∙◌, ◌∷◌, ◌||◌, ℕ, Bool, List, [], Result, Ok, Err, ap, map, refl, Binding, CodeBinding, Named, BoundPolicy, Refusal, binding_view, bindings_in, bytes_eq, is_bound, list_any, policies_in}
+use Rattle.cluster_state.proofs.Prelude.{◌++◌, append_assoc, sym, true, Some, policy_before, policy_in, ◌≡◌, ◌∙◌, ◌∷◌, ◌||◌, ℕ, Bool, List, [], Result, Ok, Err, ap, map, refl, Binding, CodeBinding, Named, BoundPolicy, Refusal, binding_view, bindings_in, bytes_eq, is_bound, list_any, policies_in}
 use Rattle.serde_json.specs.Data as json
 use Rattle.cluster_state.proofs.Listed.{after_done}
 
@@ -18,10 +18,6 @@ any_of_map p f (x ∷ xs) = ap (λ b. p (f x) || b) (any_of_map p f xs)
 pub bound_in_views : (bs : List CodeBinding) (name : List ℕ) → list_any (λ b. bytes_eq b.policy_name.now name) bs ≡ is_bound (map binding_view bs) name
 unfolding is_bound
 bound_in_views bs name = any_of_map (λ b. bytes_eq b.policy_name name) binding_view bs
-
--- the selected objects before `rest` are `done`
-pub record SelectedGo (s : LabelSelector) (all rest : Named) (done : List json.Data) : Type 0 where
-  pub left : done ++ chosen (by_labels s) rest ≡ chosen (by_labels s) all
 
 before_rest : (done : List BoundPolicy) (name : List ℕ) (p : BoundPolicy) (r : Result (List BoundPolicy) Refusal)
     → after_done done (policy_before name (Some p) r) ≡ after_done (done ++ p ∷ []) r

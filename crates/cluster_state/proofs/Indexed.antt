@@ -10,6 +10,7 @@ use Rattle.std.specs.List.{filter_map}
 use Rattle.std.specs.Prelude.{Vec, slice_get}
 use Rattle.std.specs.declared.alloc.Global.{Global}
 use Rattle.cluster_state.proofs.Named.{front_next}
+use Rattle.cluster_state.proofs.Placed.{refilled}
 use Rattle.cluster_state.specs.Bindings.{bindings_of}
 use Rattle.cluster_state.specs.Indexes.{FindsBindings, bindings_at, bound_to, places_for}
 
@@ -21,11 +22,6 @@ same_text a b e = (bytes_eq-Decides a b).0 e
 -- a name as a key of the index
 abbrev pub lent_name : List ℕ → Bor (List ℕ)
 lent_name name = record { ref_ptr = (0, 0); now = name }
-
-refilled : {M A : Type 0} (f : M → List A) (b : Bool) (w : M) (o p q : Option M) → q ≡ cond b (Some w) p → p ≡ cond b None o
-    → option_map_or f q [] ≡ (if b then f w else option_map_or f o [])
-refilled f true w o p q e h = ap (λ x. option_map_or f x []) e
-refilled f false w o p q e h = ap (λ x. option_map_or f x []) (e ∙ h)
 
 one_more : (b : Bool) (name n : List ℕ) (places : List ℕ → List ℕ) (place : ℕ) (items : List ℕ) → (b ≡ true → name ≡ n) → items ≡ places name ++ place ∷ []
     → (if b then items else places n) ≡ (if b then places n ++ place ∷ [] else places n)

@@ -1,10 +1,10 @@
 -- The proofs of `cluster_state`.
 
 pub mod Prelude
-pub mod Read
 pub mod Listed
 pub mod Placed
 pub mod Adding
+pub mod Chosen
 pub mod Held
 pub mod Parts
 pub mod Whole

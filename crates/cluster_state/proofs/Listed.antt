@@ -1,11 +1,7 @@
 -- Lists are read one after another, with their places.
-use Rattle.cluster_state.proofs.Prelude.{◌≡◌, ◌++◌, ◌∷◌, ℕ, List, [], Result, Ok, Err, ap, refl, Item, Refusal, documents_in, items_in, items_list}
+pub use Rattle.json_fields.proofs.Items.{listed}
+use Rattle.cluster_state.proofs.Prelude.{◌≡◌, ◌++◌, ℕ, List, Result, Ok, Err, Item, Refusal, documents_in, items_in}
 use Rattle.serde_json.specs.Data as json
-use Rattle.serde_json.specs.View.{items_of}
-
-pub listed : (ds : List json.Data) → items_list (items_of ds) ≡ ds
-listed [] = refl
-listed (d ∷ ds) = ap (λ es. d ∷ es) (listed ds)
 
 -- what is read after `done`
 abbrev pub after_done : {A : Type 0} → List A → Result (List A) Refusal → Result (List A) Refusal

@@ -2,7 +2,7 @@
 use Rattle.cluster_state.proofs.Prelude.{◌≡◌, ◌∙◌, ◌∷◌, ◌++◌, Bool, true, false, List, Result, Ok, Err, ap, refl, sym, Binding, Item, Objects, BoundPolicy, Refusal, ClusterState, bindings, bindings_in, bindings_then, items_then, no_objects, policies, policies_in, policies_then, state_with, with_items}
 use Rattle.std.proofs.Common.{[], None, Some, codes, if◌then◌else◌, true≢false, ◌||◌}
 use Rattle.std.specs.List.{list_any}
-use Rattle.admission_documents.specs.Documents.{field, field_of}
+use Rattle.json_fields.specs.Fields.{field, field_of}
 use Rattle.cluster_state.specs.Objects.{Named}
 use Rattle.cluster_state.specs.Params.{if_placed, is_in_namespace, is_of_kind, is_of_other_version, known_kind, scope_by, scope_by_items, scope_of, serves, with_scope}
 use Rattle.cluster_state.specs.Policies.{ParamKind}

@@ -8,7 +8,7 @@ use Rattle.std.specs.BTreeMap.{IsEmpty}
 use Rattle.std.specs.Option.{option_or}
 use Rattle.std.specs.Prelude.{codes}
 use Rattle.serde_json.specs.Data as json
-use Rattle.admission_documents.specs.Documents.{field, field_of, text_of}
+use Rattle.json_fields.specs.Fields.{field, field_of, text_of}
 use Rattle.value_store.specs.Documents.{equals_string}
 use Rattle.cluster_state.specs.Items.{group_in}
 use Rattle.cluster_state.specs.Scopes.{Scopes, Versions, first_scope, is_served_kind, items_of, scope_at, scope_by_spec, serves_version, serves_with, version_at, version_if}

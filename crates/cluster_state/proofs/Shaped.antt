@@ -5,7 +5,7 @@ use Rattle.std.proofs.lemmas.Bool.{and_parts, true≢false}
 use Rattle.std.proofs.lemmas.List.{take_more}
 use Rattle.std.proofs.lemmas.Slice.Eq.{bytes_eq-Decides}
 use Rattle.std.specs.BTreeMap.{IsEmpty}
-use Rattle.admission_documents.specs.Documents.{field, field_of}
+use Rattle.json_fields.specs.Fields.{field, field_of}
 use Rattle.cluster_state.specs.Items.{group_in}
 use Rattle.cluster_state.specs.Params.{KnownKind, if_placed, is_in_namespace, is_of_kind, known_kind, scope_by_items, scope_of, serves, with_scope}
 use Rattle.cluster_state.specs.Shapes.{Shapes, ShowAll, Shows, differs_from, is_item_in_namespace, is_item_of, is_item_of_other_version, is_of_group, is_spaced, shape_cmp, shape_of, shape_with}

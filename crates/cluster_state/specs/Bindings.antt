@@ -4,7 +4,7 @@ use Rattle.std.specs.List.{filter, list_any}
 use Rattle.serde_json.specs.Data as json
 use Rattle.label_selectors.specs.Selectors.{LabelSelector, selector_view}
 use Rattle.admission_match.specs.Matching.{MatchResources, match_view}
-use Rattle.admission_documents.specs.Documents.{field, has_only, list_of, text_of, text_or_empty_of}
+use Rattle.json_fields.specs.Fields.{field, has_only, list_of, text_of, text_or_empty_of}
 use Rattle.admission_documents.specs.Matching.{match_resources_of}
 use Rattle.admission_documents.specs.Selectors.{selector_of}
 use Rattle.cluster_state.specs.Objects.{Named}

@@ -3,7 +3,8 @@ use Rattle.std.specs.Prelude.{ℕ, ◌+◌, ◌&&◌, ◌||◌, ◌==◌, Bool, 
 use Rattle.serde_json.specs.Data as json
 use Rattle.serde_json.specs.View.{view}
 use Rattle.value_store.specs.Documents.{equals_string}
-use Rattle.admission_documents.specs.Documents.{field, field_of, text_of, text_or_empty_of}
+use Rattle.json_fields.specs.Fields.{field, field_of, text_of, text_or_empty_of}
+pub use Rattle.json_fields.specs.Fields.{array_of, items_list}
 use Rattle.admission_documents.specs.Selectors.{is_text_map, labels_field}
 use Rattle.cluster_state.specs.Refusals.{Refusal, not_a_list, invalid_item}
 use Rattle.cluster_state.specs.declared.item.Item.{Item as CodeItem}
@@ -88,15 +89,6 @@ abbrev pub item_in : json.Data → Option Item
 item_in d = if are_labels (labels_field d) then if_read (item_parts d) else None
 
 -- ---- lists
-
-abbrev pub items_list : json.Items → List json.Data
-items_list json.no_items = []
-items_list (json.item d ds) = d ∷ items_list ds
-
--- an array
-abbrev pub array_of : Option json.Data → Option (List json.Data)
-array_of (Some (json.array ds)) = Some (items_list ds)
-array_of _ = None
 
 -- the document is a List
 unfoldable pub is_list : json.Data → Bool

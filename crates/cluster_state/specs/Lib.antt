@@ -2,8 +2,11 @@
 
 pub mod Bindings
 pub mod Collections
+pub mod DataSets
+pub mod FailurePolicies
 pub mod Items
 pub mod Laws
+pub mod Numbers
 pub mod Objects
 pub mod Params
 pub mod Parts

@@ -9,9 +9,9 @@ use Rattle.std.specs.Ordering.{nat_cmp, ordering_then}
 use Rattle.std.specs.declared.cmp.Ordering.{Ordering}
 use Rattle.serde_json.specs.Data as json
 use Rattle.serde_json.specs.View.{view}
-use Rattle.serde_json.specs.declared.value.Value.{Value}
 use Rattle.cluster_state.specs.Items.{Collection, Item}
 use Rattle.cluster_state.specs.Refusals.{Refusal, duplicate_item}
+use Rattle.cluster_state.specs.declared.document.Document.{Document}
 use Rattle.cluster_state.specs.declared.objects.Objects.{Objects as CodeObjects}
 
 -- names with their objects, ordered by name (bytes in UTF-8)
@@ -52,8 +52,16 @@ with_items objects (i ∷ is) = if is_taken objects i then Err (duplicate_item i
 
 -- ---- values of the code
 
-abbrev pub named_view : List (Bor (List ℕ) × Bor Value) → Named
-named_view es = map (λ e. (e.0.now, view e.1.now)) es
+-- names of the code, with their documents
+abbrev pub Entries : Type 0
+Entries = List (Bor (List ℕ) × Document)
+
+abbrev pub named_view : Entries → Named
+named_view es = map (λ e. (e.0.now, view e.1.value.now)) es
+
+-- the entries of a map, if there is one
+abbrev pub entries_of : Option (Bor (BTreeMap (Bor (List ℕ)) Document)) → Entries
+entries_of m = option_map_or (λ o. o.now.entries) m []
 
 -- how a collection compares with one of the code, of which the namespace comes first
 abbrev pub collection_cmp : Collection → Bor (List ℕ) × Bor (List ℕ) × Bor (List ℕ) → Ordering
@@ -61,9 +69,21 @@ collection_cmp c k =
     ordering_then (ordering_then (slice_cmp nat_cmp c.namespace k.0.now) (slice_cmp nat_cmp c.kind k.1.now))
     (slice_cmp nat_cmp c.api_version k.2.now)
 
+-- the collections of the code
+abbrev pub Collections : Type 0
+Collections = BTreeMap (Bor (List ℕ) × Bor (List ℕ) × Bor (List ℕ)) (BTreeMap (Bor (List ℕ)) Document)
+
+-- the entries of a collection
+abbrev pub entries_in : Collections → Collection → Entries
+entries_in m c = option_map_or (λ o. o.entries) (get_by (collection_cmp c) m) []
+
 -- the objects of a collection in the map of the code
-abbrev pub named_in : BTreeMap (Bor (List ℕ) × Bor (List ℕ) × Bor (List ℕ)) (BTreeMap (Bor (List ℕ)) (Bor Value)) → Objects
-named_in m c = option_map_or (λ o. named_view o.entries) (get_by (collection_cmp c) m) []
+abbrev pub named_in : Collections → Objects
+named_in m c = named_view (entries_in m c)
+
+-- the entries of a collection in objects of the code
+abbrev pub entries_at : CodeObjects → Collection → Entries
+entries_at o = entries_in o.collections
 
 -- objects of the code
 abbrev pub objects_view : CodeObjects → Objects

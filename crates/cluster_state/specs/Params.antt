@@ -2,14 +2,12 @@
 use Rattle.std.specs.Prelude.{◌≡◌, ◌==◌, ◌&&◌, ◌||◌, ℕ, Bool, false, not, List, [], ◌∷◌, map, Option, Some, None, option_map, Result, Ok, Err, bytes_eq, codes, length, if◌then◌else◌}
 use Rattle.std.specs.List.{filter, list_any}
 use Rattle.std.specs.Option.{option_to_list}
-use Rattle.std.specs.Borrow.{Bor}
 use Rattle.std.specs.Prelude.{Vec}
 use Rattle.std.specs.declared.alloc.Global.{Global}
 use Rattle.serde_json.specs.Data as json
 use Rattle.serde_json.specs.View.{view}
-use Rattle.serde_json.specs.declared.value.Value.{Value}
 use Rattle.label_selectors.specs.Selectors.{Labels, selects}
-use Rattle.admission_documents.specs.Documents.{field, field_of}
+use Rattle.json_fields.specs.Fields.{field, field_of}
 use Rattle.admission_documents.specs.Requests.{GroupVersionKind, is_core_namespace}
 use Rattle.admission_documents.specs.Selectors.{labels_in}
 use Rattle.cluster_state.specs.Bindings.{ParamChoice, ParamRef, by_labels, by_name}
@@ -17,6 +15,7 @@ use Rattle.cluster_state.specs.Items.{Collection, Item, group_in}
 use Rattle.cluster_state.specs.Objects.{Named, Objects, object_named}
 use Rattle.cluster_state.specs.Policies.{ParamKind, param_kind_view}
 use Rattle.cluster_state.specs.State.{definitions, namespaces}
+use Rattle.cluster_state.specs.declared.document.Document.{Document}
 use Rattle.cluster_state.specs.declared.param_scope.ParamScope.{ParamScope}
 use Rattle.cluster_state.specs.declared.param_scope.ParamScope.TheVariants.{Namespaced, Cluster}
 use Rattle.cluster_state.specs.declared.param_error.ParamError.{ParamError}
@@ -113,8 +112,8 @@ params_of objects k r own =
     else if_found r.denies_absence (chosen r.choice (objects (params_place k.scope k.kind r.namespace own))))
 
 -- the params or the first error are returned; or an allocation failed
-abbrev pub ParamsRead : Result (List json.Data) ParamError → Result (Vec (Bor Value) Global) ParamError → Type 0
-ParamsRead due (Ok v) = due ≡ Ok (map (λ d. view d.now) v.items)
+abbrev pub ParamsRead : Result (List json.Data) ParamError → Result (Vec Document Global) ParamError → Type 0
+ParamsRead due (Ok v) = due ≡ Ok (map (λ d. view d.value.now) v.items)
 ParamsRead due (Err ClusterScopedRequest) = due ≡ Err ClusterScopedRequest
 ParamsRead due (Err NeedlessNamespace) = due ≡ Err NeedlessNamespace
 ParamsRead due (Err NotFound) = due ≡ Err NotFound
@@ -159,5 +158,5 @@ known_kind_view k = record { kind = param_kind_view k.kind; scope = k.scope }
 
 abbrev pub namespace_object_view : CodeNamespace → NamespaceObject
 namespace_object_view code.Null = no_object
-namespace_object_view (code.Object d) = object (view d.now)
+namespace_object_view (code.Object d) = object (view d.value.now)
 namespace_object_view code.NotFound = missing

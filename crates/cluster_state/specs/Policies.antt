@@ -5,13 +5,14 @@ use Rattle.std.specs.List.{list_any}
 use Rattle.serde_json.specs.Data as json
 use Rattle.serde_json.specs.View.{view}
 use Rattle.admission_match.specs.Matching.{MatchResources, match_view}
-use Rattle.admission_documents.specs.Documents.{field, has_only, text_of}
+use Rattle.json_fields.specs.Fields.{field, has_only, text_of}
 use Rattle.admission_documents.specs.Matching.{match_constraints_of}
 use Rattle.cluster_state.specs.Bindings.{Binding, if_text}
 use Rattle.cluster_state.specs.Objects.{Named}
 use Rattle.cluster_state.specs.Refusals.{Refusal, invalid_policy}
 use Rattle.cluster_state.specs.declared.param_kind.ParamKind.{ParamKind as CodeKind}
 use Rattle.cluster_state.specs.declared.policy.Policy.{Policy as CodePolicy}
+unfoldable pub use Rattle.cluster_state.specs.FailurePolicies.{fails_closed}
 
 -- a kind of params (ParamKind)
 pub record ParamKind : Type 0 where

@@ -11,7 +11,7 @@ use Rattle.std.specs.Ordering.{nat_cmp}
 use Rattle.serde_json.specs.Data as json
 use Rattle.serde_json.specs.View.{items_view}
 use Rattle.value_store.specs.Documents.{equals_string}
-use Rattle.admission_documents.specs.Documents.{field, field_of}
+use Rattle.json_fields.specs.Fields.{field, field_of}
 use Rattle.cluster_state.specs.Items.{group_in}
 use Rattle.cluster_state.specs.Objects.{Named}
 use Rattle.cluster_state.specs.Policies.{ParamKind}

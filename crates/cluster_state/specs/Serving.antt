@@ -2,7 +2,7 @@
 use Rattle.std.specs.Prelude.{◌==◌, ◌&&◌, ◌||◌, ◌+◌, ℕ, Bool, false, List, Option, Some, None, bytes_eq, codes, drop, position, if◌then◌else◌}
 use Rattle.serde_json.specs.Data as json
 use Rattle.value_store.specs.Documents.{equals_string}
-use Rattle.admission_documents.specs.Documents.{field, field_of}
+use Rattle.json_fields.specs.Fields.{field, field_of}
 use Rattle.cluster_state.specs.Items.{group_in}
 use Rattle.cluster_state.specs.Policies.{ParamKind}
 use Rattle.cluster_state.specs.declared.param_scope.ParamScope.{ParamScope}

@@ -2,7 +2,7 @@
 ghost use Rattle.std.specs.Prelude.{◌≡◌, ◌&&◌, option_map};
 ghost use Rattle.cluster_state.specs.declared.action.Action.TheVariants.{Deny, Warn};
 ghost use Rattle.serde_json.specs.View.{items_view, view};
-ghost use Rattle.admission_documents.specs.Documents.{each, list_of};
+ghost use Rattle.json_fields.specs.Fields.{each, list_of};
 ghost use Rattle.admission_documents.specs.Fields.{ReadsField};
 ghost use Rattle.cluster_state.specs.Bindings.{action_in, actions_of, are_actions, are_distinct, has_action};
 

@@ -1,7 +1,7 @@
 //! Bindings.
 ghost use Rattle.std.specs.Prelude.{◌≡◌, Some, option_map};
 ghost use Rattle.serde_json.specs.View.{view};
-ghost use Rattle.admission_documents.specs.Documents.{has_only};
+ghost use Rattle.json_fields.specs.Fields.{has_only};
 ghost use Rattle.cluster_state.specs.Bindings.{ReadsBinding, binding_in, binding_keys, binding_parts, binding_spec, if_text};
 
 use crate::action::Action;
@@ -9,8 +9,9 @@ use crate::actions::actions;
 use crate::binding_error::BindingError;
 use crate::binding_part::BindingPart;
 use crate::param_ref::{ParamRef, param_ref};
-use admission_documents::{field, has_only_keys, match_resources, text};
+use admission_documents::match_resources;
 use admission_match::MatchResources;
+use json_fields::{field, has_only_keys, text};
 use serde_json::Value;
 use std::alloc::Global;
 

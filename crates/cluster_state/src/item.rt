@@ -1,10 +1,10 @@
 //! Items of lists.
 ghost use Rattle.std.specs.Prelude.{◌≡◌, ◌==◌, ◌<◌, length, option_map, position, IfSome};
 ghost use Rattle.serde_json.specs.View.{view};
-ghost use Rattle.admission_documents.specs.Documents.{field_of};
 ghost use Rattle.cluster_state.specs.Items.{are_labels, group_in, has_other_version, is_misplaced, is_of_cluster, is_policy_kind, is_read, item_in, item_parts, item_view};
 
-use admission_documents::{field, is_text_map, labels_field, text, text_or_empty};
+use admission_documents::{is_text_map, labels_field};
+use json_fields::{field, field_of, text, text_or_empty};
 use serde_json::Value;
 
 /// An object in a list. Its texts and its document are borrowed from the list.
@@ -64,16 +64,6 @@ impl<'a> Item<'a> {
         ensures { result ≡ is_misplaced (item_view self.now).collection }
     {
         is_of_cluster(self.api_version, self.kind) && !self.namespace.is_empty()
-    }
-}
-
-/// The field of an optional object.
-pub(crate) fn field_of<'a>(value: Option<&'a Value>, name: &str) -> Option<&'a Value>
-    ensures { option_map (λ v. view v.now) result ≡ field_of name.now (option_map (λ v. view v.now) value.entry) }
-{
-    match value {
-        Some(value) => field(value, name),
-        None => None,
     }
 }
 

@@ -1,27 +1,14 @@
 //! Lists of items.
-ghost use Rattle.std.specs.Prelude.{◌≡◌, ◌+◌, ◌++◌, IfOk, OnOk, map, option_map};
-ghost use Rattle.serde_json.specs.View.{items_view, view};
-ghost use Rattle.value_store.specs.Documents.{document_of, equals_string};
-ghost use Rattle.cluster_state.specs.Items.{array_of, documents_in, is_list, items_list, item_view, items_in, items_of, list_in};
+ghost use Rattle.std.specs.Prelude.{◌≡◌, ◌+◌, ◌++◌, OnOk, map, option_map};
+ghost use Rattle.serde_json.specs.View.{view};
+ghost use Rattle.cluster_state.specs.Items.{documents_in, is_list, item_view, items_in, items_of, list_in};
 ghost use Rattle.cluster_state.specs.Refusals.{ReadsDue};
 
 use crate::item::Item;
 use crate::state_error::StateError;
-use admission_documents::field;
+use json_fields::{array_of, equals_string, field};
 use serde_json::Value;
 use std::alloc::{AllocError, Global};
-
-/// Parses a JSON text; `None` if it is not JSON.
-#[tactic(auto, using(crate::proofs::Read::document_read, crate::proofs::Read::document_refused))]
-pub fn parse(alloc: Global, text: &[u8]) -> Result<Option<Value>, AllocError>
-    ensures { IfOk result (λ v. option_map view v ≡ document_of text.now) }
-{
-    match Value::from_slice(alloc, text) {
-        Ok(value) => Ok(Some(value)),
-        Err(error) if error.is_memory() => Err(AllocError),
-        Err(_) => Ok(None),
-    }
-}
 
 /// The items of all lists.
 pub(crate) fn items<'a>(alloc: Global, lists: &'a [Value]) -> Result<Vec<Item<'a>>, StateError>
@@ -75,31 +62,6 @@ fn is_list(value: &Value) -> bool
     let version = equals_string(field(value, "apiVersion"), "v1");
     let kind = equals_string(field(value, "kind"), "List");
     version && kind
-}
-
-/// Whether the value is this text.
-pub(crate) fn equals_string(value: Option<&Value>, text: &str) -> bool
-    ensures { result ≡ equals_string (option_map (λ v. view v.now) value.entry) text.now }
-{
-    match value {
-        Some(Value::String(found)) => found.as_str() == text,
-        _ => false,
-    }
-}
-
-fn array_of<'a>(value: Option<&'a Value>) -> Option<&'a [Value]>
-    ensures { option_map (λ v. map view v.now) result ≡ array_of (option_map (λ v. view v.now) value.entry) }
-{
-    match value {
-        Some(Value::Array(items)) => Some(slice_of(items)),
-        _ => None,
-    }
-}
-
-fn slice_of(items: &Vec<Value>) -> &[Value]
-    ensures { map view result.now ≡ items_list (items_view items.now.items) }
-{
-    items.as_slice()
 }
 
 /// The items in documents.

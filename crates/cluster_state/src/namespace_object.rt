@@ -1,12 +1,12 @@
 //! The namespace of a request.
 
-use serde_json::Value;
+use crate::document::Document;
 
 /// The root `namespaceObject` of a request.
 #[derive(Clone, Copy, Debug, Drop)]
 pub enum NamespaceObject<'a> {
     Null,
-    Object(&'a Value),
+    Object(Document<'a>),
     /// The namespace of the request does not exist.
     NotFound,
 }

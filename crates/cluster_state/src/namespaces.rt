@@ -1,32 +1,24 @@
 //! The namespaces of a cluster.
-ghost use Rattle.std.specs.Prelude.{◌≡◌, ◌==◌, ◌||◌, [], length, option_map};
-ghost use Rattle.std.specs.Option.{option_map_or};
+ghost use Rattle.std.specs.Prelude.{◌≡◌, IfSome, option_map};
 ghost use Rattle.serde_json.specs.View.{view};
 ghost use Rattle.admission_documents.specs.Requests.{kind_view};
-ghost use Rattle.cluster_state.specs.Objects.{named_view};
-ghost use Rattle.cluster_state.specs.Params.{namespace_labels, namespace_named, namespace_object, namespace_object_view, object_or_missing};
-ghost use Rattle.cluster_state.specs.State.{namespaces, state_view};
+ghost use Rattle.cluster_state.specs.Numbers.{IsNumbered, IsNumberedNamespace};
+ghost use Rattle.cluster_state.specs.Params.{namespace_labels, namespace_named, namespace_object, namespace_object_view};
+ghost use Rattle.cluster_state.specs.State.{state_view};
 
+use crate::document::Document;
 use crate::namespace_object::NamespaceObject;
 use crate::objects::object;
 use crate::state::State;
 use admission_documents::{GroupVersionKind, ObjectLabels};
 use admission_match::Namespaces;
 use label_selectors::LabelSelector;
-use serde_json::Value;
-use std::collections::BTreeMap;
 
 impl<'a> State<'a> {
-    /// All namespaces, by their names.
-    pub fn all_namespaces(&self) -> Option<&BTreeMap<&'a str, &'a Value>>
-        ensures { option_map_or (λ m. named_view m.now.entries) result [] ≡ (state_view self.now).objects namespaces }
-    {
-        self.objects.all.namespaces()
-    }
-
     /// The namespace with this name.
-    pub fn namespace(&self, name: &str) -> Option<&'a Value>
-        ensures { option_map (λ v. view v.now) result ≡ namespace_named name.now (state_view self.now).objects }
+    pub fn namespace(&self, name: &str) -> Option<Document<'a>>
+        ensures value { option_map (λ d. view d.value.now) result ≡ namespace_named name.now (state_view self.now).objects }
+        ensures numbered { IfSome result (IsNumbered (state_view self.now).items) }
     {
         object(self.objects.all.namespaces(), name)
     }
@@ -37,7 +29,8 @@ impl<'a> State<'a> {
         kind: &GroupVersionKind<'_>,
         namespace: &str,
     ) -> NamespaceObject<'a>
-        ensures { namespace_object_view result ≡ namespace_object (state_view self.now).objects (kind_view kind.now) namespace.now }
+        ensures value { namespace_object_view result ≡ namespace_object (state_view self.now).objects (kind_view kind.now) namespace.now }
+        ensures numbered { IsNumberedNamespace (state_view self.now).items result }
     {
         if kind.is_core_namespace() || namespace.is_empty() {
             return NamespaceObject::Null;
@@ -54,7 +47,7 @@ impl Namespaces for State<'_> {
 
     fn selected(&self, name: &str, selector: &LabelSelector) -> Option<bool> {
         match self.namespace(name) {
-            Some(object) => Some(selector.selects(&ObjectLabels::of(object))),
+            Some(object) => Some(selector.selects(&ObjectLabels::of(object.value))),
             None => None,
         }
     }

@@ -1,13 +1,14 @@
 //! The objects of a cluster, by kind, namespace and name.
-ghost use Rattle.std.specs.Prelude.{◌≡◌, ◌==◌, length, IfOk, IfSome, OnOk, is_some, not, option_map, List, []};
+ghost use Rattle.std.specs.Prelude.{◌≡◌, ◌==◌, length, IfOk, IfSome, OnOk, not, option_map, List, [], Some, slice_get};
 ghost use Rattle.std.specs.Option.{option_map_or};
 ghost use Rattle.serde_json.specs.View.{view};
-ghost use Rattle.cluster_state.specs.Items.{Collection, item_view};
+ghost use Rattle.cluster_state.specs.Items.{Collection, Item as ListedItem, item_view};
+ghost use Rattle.cluster_state.specs.Numbers.{AreNumbered, HasNumbers, IsNumbered};
 ghost use Rattle.cluster_state.specs.State.{bindings, definitions, namespaces, policies};
-ghost use Rattle.cluster_state.specs.Objects.{collection_view, is_collection, is_taken, named_in, named_view, object_named, objects_view, with_item, with_name};
+ghost use Rattle.cluster_state.specs.Objects.{collection_view, entries_at, entries_in, entries_of, is_collection, is_taken, named_in, named_view, object_named, objects_view, with_item};
 
+use crate::document::Document;
 use crate::item::Item;
-use serde_json::Value;
 use std::alloc::{AllocError, Global};
 use std::collections::BTreeMap;
 
@@ -15,24 +16,31 @@ use std::collections::BTreeMap;
 #[derive(Debug, Drop)]
 pub(crate) struct Objects<'a> {
     /// By namespace, kind and `apiVersion`, and then by name. Those without a namespace come first.
-    collections: BTreeMap<(&'a str, &'a str, &'a str), BTreeMap<&'a str, &'a Value>>,
+    collections: BTreeMap<(&'a str, &'a str, &'a str), BTreeMap<&'a str, Document<'a>>>,
 }
 
 impl<'a> Objects<'a> {
     pub(crate) fn new(alloc: Global) -> Objects<'a>
-        ensures { (c : Collection) → objects_view result c ≡ [] }
+        ensures { (c : Collection) → entries_at result c ≡ [] }
     {
         Objects {
             collections: BTreeMap::new(alloc),
         }
     }
 
-    /// Adds an item; returns whether its place was free. Otherwise it replaces another one.
-    pub(crate) fn add(&mut self, alloc: Global, item: &Item<'a>) -> Result<bool, AllocError>
+    /// Adds the item with this number; returns whether its place was free. Otherwise it replaces
+    /// another one.
+    pub(crate) fn add(
+        &mut self,
+        alloc: Global,
+        number: usize,
+        item: &Item<'a>,
+    ) -> Result<bool, AllocError>
         ensures free { IfOk result (λ free. free ≡ not (is_taken (objects_view self.old) (item_view item.now))) }
         ensures added { OnOk result ((c : Collection) → objects_view self.new c ≡ with_item (objects_view self.old) (item_view item.now) c) }
+        ensures numbered { OnOk result ((is : List ListedItem) → HasNumbers is self.old.collections → slice_get is number ≡ Some (item_view item.now) → HasNumbers is self.new.collections) }
     {
-        add_to(alloc, &mut self.collections, item)
+        add_to(alloc, &mut self.collections, number, item)
     }
 
     /// Whether there is a Namespace.
@@ -43,22 +51,22 @@ impl<'a> Objects<'a> {
     }
 
     /// The namespaces.
-    pub(crate) fn namespaces(&self) -> Option<&BTreeMap<&'a str, &'a Value>>
-        ensures { option_map_or (λ m. named_view m.now.entries) result [] ≡ objects_view self.now namespaces }
+    pub(crate) fn namespaces(&self) -> Option<&BTreeMap<&'a str, Document<'a>>>
+        ensures { entries_of result ≡ entries_at self.now namespaces }
     {
         self.named(&("", "Namespace", "v1"))
     }
 
     /// The definitions of kinds.
-    pub(crate) fn definitions(&self) -> Option<&BTreeMap<&'a str, &'a Value>>
-        ensures { option_map_or (λ m. named_view m.now.entries) result [] ≡ objects_view self.now definitions }
+    pub(crate) fn definitions(&self) -> Option<&BTreeMap<&'a str, Document<'a>>>
+        ensures { entries_of result ≡ entries_at self.now definitions }
     {
         self.named(&("", "CustomResourceDefinition", "apiextensions.k8s.io/v1"))
     }
 
     /// The bindings of policies.
-    pub(crate) fn bindings(&self) -> Option<&BTreeMap<&'a str, &'a Value>>
-        ensures { option_map_or (λ m. named_view m.now.entries) result [] ≡ objects_view self.now bindings }
+    pub(crate) fn bindings(&self) -> Option<&BTreeMap<&'a str, Document<'a>>>
+        ensures { entries_of result ≡ entries_at self.now bindings }
     {
         self.named(&(
             "",
@@ -68,8 +76,8 @@ impl<'a> Objects<'a> {
     }
 
     /// The policies.
-    pub(crate) fn policies(&self) -> Option<&BTreeMap<&'a str, &'a Value>>
-        ensures { option_map_or (λ m. named_view m.now.entries) result [] ≡ objects_view self.now policies }
+    pub(crate) fn policies(&self) -> Option<&BTreeMap<&'a str, Document<'a>>>
+        ensures { entries_of result ≡ entries_at self.now policies }
     {
         self.named(&(
             "",
@@ -82,8 +90,8 @@ impl<'a> Objects<'a> {
     pub(crate) fn named(
         &self,
         place: &(&'a str, &'a str, &'a str),
-    ) -> Option<&BTreeMap<&'a str, &'a Value>>
-        ensures { option_map_or (λ m. named_view m.now.entries) result [] ≡ objects_view self.now (collection_view place.now) }
+    ) -> Option<&BTreeMap<&'a str, Document<'a>>>
+        ensures { entries_of result ≡ entries_at self.now (collection_view place.now) }
     {
         self.collections.get(place)
     }
@@ -94,8 +102,8 @@ impl<'a> Objects<'a> {
         api_version: &'a str,
         kind: &'a str,
         namespace: &str,
-    ) -> Option<&BTreeMap<&'a str, &'a Value>>
-        ensures { option_map_or (λ m. named_view m.now.entries) result [] ≡ objects_view self.now (record { api_version = api_version.now; kind = kind.now; namespace = namespace.now }) }
+    ) -> Option<&BTreeMap<&'a str, Document<'a>>>
+        ensures { entries_of result ≡ entries_at self.now (record { api_version = api_version.now; kind = kind.now; namespace = namespace.now }) }
     {
         match own_name(self.namespaces(), namespace) {
             Some(own) => self.named(&(own, kind, api_version)),
@@ -109,8 +117,8 @@ impl<'a> Objects<'a> {
         api_version: &str,
         kind: &str,
         namespace: &str,
-    ) -> Option<&BTreeMap<&'a str, &'a Value>>
-        ensures { option_map_or (λ m. named_view m.now.entries) result [] ≡ objects_view self.now (record { api_version = api_version.now; kind = kind.now; namespace = namespace.now }) }
+    ) -> Option<&BTreeMap<&'a str, Document<'a>>>
+        ensures { entries_of result ≡ entries_at self.now (record { api_version = api_version.now; kind = kind.now; namespace = namespace.now }) }
     {
         for (place, objects) in self.collections.iter() {
             if is_place(place, api_version, kind, namespace) {
@@ -122,7 +130,7 @@ impl<'a> Objects<'a> {
 }
 
 /// The name among these objects that is this text.
-fn own_name<'a>(named: Option<&BTreeMap<&'a str, &'a Value>>, name: &str) -> Option<&'a str>
+fn own_name<'a>(named: Option<&BTreeMap<&'a str, Document<'a>>>, name: &str) -> Option<&'a str>
     ensures { IfSome result (λ own. own.now ≡ name.now) }
 {
     match named {
@@ -131,7 +139,7 @@ fn own_name<'a>(named: Option<&BTreeMap<&'a str, &'a Value>>, name: &str) -> Opt
     }
 }
 
-fn own_name_in<'a>(named: &BTreeMap<&'a str, &'a Value>, name: &str) -> Option<&'a str>
+fn own_name_in<'a>(named: &BTreeMap<&'a str, Document<'a>>, name: &str) -> Option<&'a str>
     ensures { IfSome result (λ own. own.now ≡ name.now) }
 {
     match named.get_key_value(name) {
@@ -149,24 +157,30 @@ fn is_place(place: &(&str, &str, &str), api_version: &str, kind: &str, namespace
 
 fn add_to<'a>(
     alloc: Global,
-    collections: &mut BTreeMap<(&'a str, &'a str, &'a str), BTreeMap<&'a str, &'a Value>>,
+    collections: &mut BTreeMap<(&'a str, &'a str, &'a str), BTreeMap<&'a str, Document<'a>>>,
+    number: usize,
     item: &Item<'a>,
 ) -> Result<bool, AllocError>
     ensures free { IfOk result (λ free. free ≡ not (is_taken (named_in collections.old) (item_view item.now))) }
     ensures added { OnOk result ((c : Collection) → named_in collections.new c ≡ with_item (named_in collections.old) (item_view item.now) c) }
+    ensures numbered { OnOk result ((is : List ListedItem) → HasNumbers is collections.old → slice_get is number ≡ Some (item_view item.now) → HasNumbers is collections.new) }
 {
     let place = (item.namespace, item.kind, item.api_version);
+    let document = Document {
+        number,
+        value: item.document,
+    };
     let mut objects = named_or_new(alloc, collections.remove(&place));
-    let old = objects.insert(item.name, item.document)?;
+    let old = objects.insert(item.name, document)?;
     collections.insert(place, objects)?;
     Ok(old.is_none())
 }
 
 fn named_or_new<'a>(
     alloc: Global,
-    objects: Option<BTreeMap<&'a str, &'a Value>>,
-) -> BTreeMap<&'a str, &'a Value>
-    ensures { named_view result.entries ≡ option_map_or (λ o. named_view o.entries) objects.entry [] }
+    objects: Option<BTreeMap<&'a str, Document<'a>>>,
+) -> BTreeMap<&'a str, Document<'a>>
+    ensures { result.entries ≡ option_map_or (λ o. o.entries) objects.entry [] }
 {
     match objects {
         Some(objects) => objects,
@@ -174,36 +188,25 @@ fn named_or_new<'a>(
     }
 }
 
-fn has_some(named: Option<&BTreeMap<&str, &Value>>) -> bool
-    ensures { result ≡ not (length (option_map_or (λ m. named_view m.now.entries) named.entry []) == 0) }
+fn has_some(named: Option<&BTreeMap<&str, Document<'_>>>) -> bool
+    ensures { result ≡ not (length (entries_of named.entry) == 0) }
 {
     match named {
-        Some(named) => is_some_named(named),
+        Some(named) => !named.is_empty(),
         None => false,
     }
 }
 
-fn is_some_named(named: &BTreeMap<&str, &Value>) -> bool
-    ensures { result ≡ not (length (named_view named.now.entries) == 0) }
-{
-    !named.is_empty()
-}
-
 /// The object with this name, if there is one.
 pub(crate) fn object<'a>(
-    named: Option<&BTreeMap<&'a str, &'a Value>>,
+    named: Option<&BTreeMap<&'a str, Document<'a>>>,
     name: &str,
-) -> Option<&'a Value>
-    ensures { option_map (λ v. view v.now) result ≡ object_named name.now (option_map_or (λ m. named_view m.now.entries) named.entry []) }
+) -> Option<Document<'a>>
+    ensures value { option_map (λ d. view d.value.now) result ≡ object_named name.now (named_view (entries_of named.entry)) }
+    ensures numbered { (is : List ListedItem) → AreNumbered is (entries_of named.entry) → IfSome result (IsNumbered is) }
 {
     match named {
-        Some(named) => object_in(named, name),
+        Some(named) => named.get(name).copied(),
         None => None,
     }
-}
-
-fn object_in<'a>(named: &BTreeMap<&'a str, &'a Value>, name: &str) -> Option<&'a Value>
-    ensures { option_map (λ v. view v.now) result ≡ object_named name.now (named_view named.now.entries) }
-{
-    named.get(name).copied()
 }

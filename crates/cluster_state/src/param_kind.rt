@@ -1,11 +1,11 @@
 //! The kind of a policy's params.
 ghost use Rattle.std.specs.Prelude.{◌≡◌, option_map};
 ghost use Rattle.serde_json.specs.View.{view};
-ghost use Rattle.admission_documents.specs.Documents.{has_only};
+ghost use Rattle.json_fields.specs.Fields.{has_only};
 ghost use Rattle.cluster_state.specs.Policies.{param_kind_in, param_kind_keys, param_kind_of, param_kind_parts, param_kind_view};
 
 use crate::binding::if_text;
-use admission_documents::{field, has_only_keys, text};
+use json_fields::{field, has_only_keys, text};
 use serde_json::Value;
 
 /// The kind of a policy's params (ParamKind).

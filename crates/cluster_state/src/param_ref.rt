@@ -1,12 +1,13 @@
 //! References to params.
 ghost use Rattle.std.specs.Prelude.{◌≡◌, Some, option_map};
 ghost use Rattle.serde_json.specs.View.{view};
-ghost use Rattle.admission_documents.specs.Documents.{has_only};
+ghost use Rattle.json_fields.specs.Fields.{has_only};
 ghost use Rattle.admission_documents.specs.Fields.{ReadsField};
 ghost use Rattle.cluster_state.specs.Bindings.{absence_of, choice_from, choice_in, choice_view, param_ref_in, param_ref_keys, param_ref_of, param_ref_parts, param_ref_view};
 
 use crate::param_choice::ParamChoice;
-use admission_documents::{FieldError, field, has_only_keys, selector, text_or_empty};
+use admission_documents::{FieldError, selector};
+use json_fields::{field, has_only_keys, text_or_empty};
 use serde_json::Value;
 use std::alloc::Global;
 

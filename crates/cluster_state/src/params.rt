@@ -1,14 +1,18 @@
 //! Params of a policy and a binding.
-ghost use Rattle.std.specs.Prelude.{◌≡◌, ◌==◌, ◌&&◌, IfOk, List, [], length, map, option_map, not};
-ghost use Rattle.std.specs.Option.{option_map_or, option_to_list};
+ghost use Rattle.std.specs.Prelude.{◌≡◌, IfOk, List, map};
+ghost use Rattle.std.specs.List.{All};
+ghost use Rattle.std.specs.Option.{option_to_list};
 ghost use Rattle.serde_json.specs.View.{view};
 ghost use Rattle.label_selectors.specs.Selectors.{selector_view};
-ghost use Rattle.cluster_state.specs.Bindings.{choice_view, by_labels, param_ref_view};
-ghost use Rattle.cluster_state.specs.Objects.{named_view, object_named};
+ghost use Rattle.cluster_state.specs.Bindings.{choice_view, param_ref_view};
+ghost use Rattle.cluster_state.specs.Items.{Item};
+ghost use Rattle.cluster_state.specs.Numbers.{AreNumbered, IsNumbered, selected_of};
+ghost use Rattle.cluster_state.specs.Objects.{entries_at, entries_of, named_view};
 ghost use Rattle.cluster_state.specs.Params.{ParamsRead, chosen, has_needless_namespace, known_kind_view, lacks_namespace, params_of, params_place};
 ghost use Rattle.cluster_state.specs.Policies.{param_kind_view};
 ghost use Rattle.cluster_state.specs.State.{state_view};
 
+use crate::document::Document;
 use crate::known_kind::KnownKind;
 use crate::objects::object;
 use crate::param_choice::ParamChoice;
@@ -19,7 +23,6 @@ use crate::param_scope::ParamScope;
 use crate::state::State;
 use admission_documents::ObjectLabels;
 use label_selectors::LabelSelector;
-use serde_json::Value;
 use std::alloc::{AllocError, Global};
 use std::collections::BTreeMap;
 
@@ -36,8 +39,9 @@ impl<'a> State<'a> {
         kind: &KnownKind<'a>,
         reference: &ParamRef<'a>,
         namespace: &str,
-    ) -> Result<Vec<&'a Value>, ParamError>
-        ensures { ParamsRead (params_of (state_view self.now).objects (known_kind_view kind.now) (param_ref_view reference.now) namespace.now) result }
+    ) -> Result<Vec<Document<'a>>, ParamError>
+        ensures value { ParamsRead (params_of (state_view self.now).objects (known_kind_view kind.now) (param_ref_view reference.now) namespace.now) result }
+        ensures numbered { IfOk result (λ v. All (IsNumbered (state_view self.now).items) v.items) }
     {
         if lacks_namespace(kind.scope, reference.namespace, namespace) {
             return Err(ParamError::ClusterScopedRequest);
@@ -59,8 +63,8 @@ impl<'a> State<'a> {
         kind: &KnownKind<'a>,
         named: &'a str,
         own: &str,
-    ) -> Option<&BTreeMap<&'a str, &'a Value>>
-        ensures { option_map_or (λ m. named_view m.now.entries) result [] ≡ (state_view self.now).objects (params_place kind.now.scope (param_kind_view kind.now.kind) named.now own.now) }
+    ) -> Option<&BTreeMap<&'a str, Document<'a>>>
+        ensures { entries_of result ≡ entries_at self.now.objects.all (params_place kind.now.scope (param_kind_view kind.now.kind) named.now own.now) }
     {
         let ParamKind {
             api_version,
@@ -101,9 +105,10 @@ fn has_needless_namespace(scope: ParamScope, named: &str) -> bool
 fn chosen<'a>(
     alloc: Global,
     choice: &ParamChoice<'a>,
-    named: Option<&BTreeMap<&'a str, &'a Value>>,
-) -> Result<Vec<&'a Value>, AllocError>
-    ensures { IfOk result (λ v. map (λ d. view d.now) v.items ≡ chosen (choice_view choice.now) (option_map_or (λ m. named_view m.now.entries) named.entry [])) }
+    named: Option<&BTreeMap<&'a str, Document<'a>>>,
+) -> Result<Vec<Document<'a>>, AllocError>
+    ensures value { IfOk result (λ v. map (λ d. view d.value.now) v.items ≡ chosen (choice_view choice.now) (named_view (entries_of named.entry))) }
+    ensures numbered { (is : List Item) → AreNumbered is (entries_of named.entry) → IfOk result (λ v. All (IsNumbered is) v.items) }
 {
     match choice {
         ParamChoice::Named(name) => one(alloc, object(named, name)),
@@ -111,8 +116,8 @@ fn chosen<'a>(
     }
 }
 
-fn one<'a>(alloc: Global, object: Option<&'a Value>) -> Result<Vec<&'a Value>, AllocError>
-    ensures { IfOk result (λ v. map (λ d. view d.now) v.items ≡ option_to_list (option_map (λ d. view d.now) object.entry)) }
+fn one<'a>(alloc: Global, object: Option<Document<'a>>) -> Result<Vec<Document<'a>>, AllocError>
+    ensures { IfOk result (λ v. v.items ≡ option_to_list object.entry) }
 {
     let mut objects = Vec::new(alloc);
     if let Some(object) = object {
@@ -124,9 +129,9 @@ fn one<'a>(alloc: Global, object: Option<&'a Value>) -> Result<Vec<&'a Value>, A
 fn selected_in<'a>(
     alloc: Global,
     selector: &LabelSelector,
-    named: Option<&BTreeMap<&'a str, &'a Value>>,
-) -> Result<Vec<&'a Value>, AllocError>
-    ensures { IfOk result (λ v. map (λ d. view d.now) v.items ≡ chosen (by_labels (selector_view selector.now)) (option_map_or (λ m. named_view m.now.entries) named.entry [])) }
+    named: Option<&BTreeMap<&'a str, Document<'a>>>,
+) -> Result<Vec<Document<'a>>, AllocError>
+    ensures { IfOk result (λ v. v.items ≡ selected_of (selector_view selector.now) (entries_of named.entry)) }
 {
     match named {
         Some(named) => selected_of(alloc, selector, named),
@@ -137,13 +142,13 @@ fn selected_in<'a>(
 fn selected_of<'a>(
     alloc: Global,
     selector: &LabelSelector,
-    named: &BTreeMap<&'a str, &'a Value>,
-) -> Result<Vec<&'a Value>, AllocError>
-    ensures { IfOk result (λ v. map (λ d. view d.now) v.items ≡ chosen (by_labels (selector_view selector.now)) (named_view named.now.entries)) }
+    named: &BTreeMap<&'a str, Document<'a>>,
+) -> Result<Vec<Document<'a>>, AllocError>
+    ensures { IfOk result (λ v. v.items ≡ selected_of (selector_view selector.now) named.now.entries) }
 {
     let mut objects = Vec::new(alloc);
     for (_name, document) in named.iter() {
-        if selector.selects(&ObjectLabels::of(document)) {
+        if selector.selects(&ObjectLabels::of(document.value)) {
             objects.push(*document)?;
         }
     }

@@ -4,6 +4,7 @@ ghost use Rattle.serde_json.specs.View.{view};
 ghost use Rattle.cluster_state.specs.Bindings.{binding_in, binding_view, bindings_in};
 ghost use Rattle.cluster_state.specs.Items.{item_view};
 ghost use Rattle.cluster_state.specs.Names.{HoldsPolicyNames};
+ghost use Rattle.cluster_state.specs.Numbers.{HasNumbers};
 ghost use Rattle.cluster_state.specs.Objects.{no_objects, objects_view, named_view, with_items};
 ghost use Rattle.cluster_state.specs.Policies.{is_bound, policies_in, policy_in, policy_view};
 ghost use Rattle.cluster_state.specs.Reading.{or_invalid_binding, or_invalid_policy};
@@ -14,6 +15,7 @@ ghost use Rattle.cluster_state.specs.State.{ObjectsRead, objects_of};
 
 use crate::binding::Binding;
 use crate::binding_error::BindingError;
+use crate::document::Document;
 use crate::item::Item;
 use crate::objects::Objects;
 use crate::policy::Policy;
@@ -26,7 +28,8 @@ use std::collections::{BTreeMap, BTreeSet};
 
 /// The objects of items.
 pub(crate) fn objects<'a>(alloc: Global, items: &[Item<'a>]) -> Result<Objects<'a>, StateError>
-    ensures { ObjectsRead (objects_of (map item_view items.now)) result }
+    ensures read { ObjectsRead (objects_of (map item_view items.now)) result }
+    ensures numbered { IfOk result (λ o. HasNumbers (map item_view items.now) o.collections) }
 {
     let objects = with_items(alloc, items)?;
     if objects.has_namespace() {
@@ -36,13 +39,16 @@ pub(crate) fn objects<'a>(alloc: Global, items: &[Item<'a>]) -> Result<Objects<'
 }
 
 fn with_items<'a>(alloc: Global, items: &[Item<'a>]) -> Result<Objects<'a>, StateError>
-    ensures { ObjectsRead (with_items no_objects (map item_view items.now)) result }
+    ensures read { ObjectsRead (with_items no_objects (map item_view items.now)) result }
+    ensures numbered { IfOk result (λ o. HasNumbers (map item_view items.now) o.collections) }
 {
     let mut objects = Objects::new(alloc);
+    let mut number = 0;
     for item in items {
-        if !objects.add(alloc, item)? {
+        if !objects.add(alloc, number, item)? {
             return Err(StateError::DuplicateItem(String::from_str(alloc, item.name)?));
         }
+        number += 1;
     }
     Ok(objects)
 }
@@ -62,13 +68,13 @@ pub(crate) fn bindings<'a>(
 
 fn bindings_in<'a>(
     alloc: Global,
-    named: &BTreeMap<&'a str, &'a Value>,
+    named: &BTreeMap<&'a str, Document<'a>>,
 ) -> Result<Vec<Binding<'a>>, StateError>
     ensures { ReadsDue (λ v. map binding_view v.items) (bindings_in (named_view named.now.entries)) result }
 {
     let mut bindings = Vec::new(alloc);
     for (name, document) in named.iter() {
-        bindings = appended(bindings, binding(alloc, name, document))?;
+        bindings = appended(bindings, binding(alloc, name, document.value))?;
     }
     Ok(bindings)
 }
@@ -103,7 +109,7 @@ pub(crate) fn policies<'a>(
 
 fn policies_in<'a>(
     alloc: Global,
-    named: &BTreeMap<&'a str, &'a Value>,
+    named: &BTreeMap<&'a str, Document<'a>>,
     bindings: &[Binding<'a>],
 ) -> Result<Vec<Policy<'a>>, StateError>
     ensures { ReadsDue (λ v. map policy_view v.items) (policies_in (map binding_view bindings.now) (named_view named.now.entries)) result }
@@ -112,7 +118,7 @@ fn policies_in<'a>(
     let mut policies = Vec::new(alloc);
     for (name, document) in named.iter() {
         if is_bound(&names, name) {
-            policies = appended(policies, policy(alloc, name, document))?;
+            policies = appended(policies, policy(alloc, name, document.value))?;
         }
     }
     Ok(policies)

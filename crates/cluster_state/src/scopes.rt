@@ -3,15 +3,16 @@ ghost use Rattle.std.specs.Prelude.{◌≡◌, ◌&&◌, ℕ, [], List, bytes_eq
 ghost use Rattle.std.specs.Option.{option_map_or, option_or};
 ghost use Rattle.serde_json.specs.View.{items_view, view};
 ghost use Rattle.cluster_state.specs.Items.{group_in};
-ghost use Rattle.cluster_state.specs.Objects.{named_view};
+ghost use Rattle.cluster_state.specs.Objects.{entries_of, named_view};
 ghost use Rattle.cluster_state.specs.Policies.{ParamKind as NamedKind, param_kind_view};
 ghost use Rattle.cluster_state.specs.Scopes.{is_served_kind, items_of, scope_at, scope_by_spec, serves_version, serves_with, version_at, version_if, AreScopes};
 ghost use Rattle.cluster_state.specs.Serving.{is_served, is_true, scope_of, serves_in, some_item, version_in};
 
-use crate::item::{field_of, group_in, slash_in};
+use crate::document::Document;
+use crate::item::{group_in, slash_in};
 use crate::param_kind::ParamKind;
 use crate::param_scope::ParamScope;
-use admission_documents::{field, text};
+use json_fields::{field, field_of, text};
 use serde_json::Value;
 use std::alloc::{AllocError, Global};
 use std::collections::BTreeMap;
@@ -45,9 +46,9 @@ pub(crate) fn scope_in<'a>(scopes: &Scopes<'a>, kind: &ParamKind<'a>) -> Option<
 /// The scopes by definitions, of which the first that serves a kind decides.
 pub(crate) fn scopes_by<'a>(
     alloc: Global,
-    definitions: Option<&BTreeMap<&'a str, &'a Value>>,
+    definitions: Option<&BTreeMap<&'a str, Document<'a>>>,
 ) -> Result<Scopes<'a>, AllocError>
-    ensures { IfOk result (λ m. AreScopes m (option_map_or (λ n. named_view n.now.entries) definitions.entry [])) }
+    ensures { IfOk result (λ m. AreScopes m (named_view (entries_of definitions.entry))) }
 {
     match definitions {
         Some(named) => scopes_of(alloc, named),
@@ -57,13 +58,13 @@ pub(crate) fn scopes_by<'a>(
 
 fn scopes_of<'a>(
     alloc: Global,
-    named: &BTreeMap<&'a str, &'a Value>,
+    named: &BTreeMap<&'a str, Document<'a>>,
 ) -> Result<Scopes<'a>, AllocError>
     ensures { IfOk result (λ m. AreScopes m (named_view named.now.entries)) }
 {
     let mut scopes = BTreeMap::new(alloc);
     for (_name, document) in named.iter() {
-        add_spec(alloc, &mut scopes, field(document, "spec"))?;
+        add_spec(alloc, &mut scopes, field(document.value, "spec"))?;
     }
     Ok(scopes)
 }

@@ -14,7 +14,7 @@ use std::collections::BTreeMap;
 /// All items, as they are listed.
 #[derive(Debug, Drop)]
 pub(crate) struct StateItems<'a> {
-    all: Vec<Item<'a>>,
+    pub(crate) all: Vec<Item<'a>>,
     /// What the items of each group and kind show.
     shapes: BTreeMap<(&'a [u8], &'a str), Shape<'a>>,
     ghost shown: { ShowAll shapes all.items } by { Prim.hlevel props },

@@ -22,7 +22,7 @@ pub(crate) struct StateObjects<'a> {
 
 impl<'a> StateObjects<'a> {
     pub(crate) fn new(alloc: Global, all: Objects<'a>) -> Result<StateObjects<'a>, AllocError>
-        ensures { IfOk result (λ o. objects_view o.all ≡ objects_view all.entry) }
+        ensures { IfOk result (λ o. o.all ≡ all.entry) }
     {
         let scopes = scopes_by(alloc, all.definitions())?;
         Ok(StateObjects { all, scopes })

@@ -1,7 +1,7 @@
 -- Loop invariant of `actions::actions_in`.
 
 use Rattle.cluster_state.proofs.Prelude.{drop, action_in, items_view}
-use Rattle.admission_documents.proofs.Lists.{EachGo}
+use Rattle.json_fields.proofs.Items.{EachGo}
 use Rattle.cluster_state.proofs.actions.actions_in.Given as goal
 
 abbrev pub invariant-loop-item : goal.invariant-loop-item

@@ -1,7 +1,8 @@
 -- Proofs of `lists::documents`: each turn of the loop keeps the invariant.
 
 use Rattle.cluster_state.proofs.Prelude.{◌+◌, ap, drop, map, view}
-use Rattle.cluster_state.proofs.Turns.{documents_next, from_place}
+use Rattle.json_fields.proofs.Items.{from_place}
+use Rattle.cluster_state.proofs.Turns.{documents_next}
 use Rattle.cluster_state.proofs.lists.documents.Goals as goal
 
 pub loop-list-preserved : goal.loop-list-preserved

@@ -1,7 +1,8 @@
 -- Proofs of `lists::items_in`: each turn of the loop keeps the invariant.
 
 use Rattle.cluster_state.proofs.Prelude.{[], ◌+◌, ◌∙◌, ◌∷◌, ap, drop, item_view, map, map-append, view}
-use Rattle.cluster_state.proofs.Turns.{from_place, items_next}
+use Rattle.json_fields.proofs.Items.{from_place}
+use Rattle.cluster_state.proofs.Turns.{items_next}
 use Rattle.cluster_state.proofs.lists.items_in.Goals as goal
 
 pub loop-document-preserved : goal.loop-document-preserved

@@ -8,8 +8,8 @@ use Rattle.cluster_state.proofs.reading.bindings_in.Goals as goal
 pub loop-name-preserved : goal.loop-name-preserved
 loop-name-preserved c = record {
   left =
-      viewed binding_view (or_invalid_binding c.in-Some.name.now.now (binding_in c.in-Some.name.now.now (view c.in-Some.document.now.now))) c.binding.result
+      viewed binding_view (or_invalid_binding c.in-Some.name.now.now (binding_in c.in-Some.name.now.now (view c.in-Some.document.now.value.now))) c.binding.result
       c.loop-name.bindings.items c.in_ok-bindings.bindings.items c.binding.ensures c.in_ok-bindings.ensures.added _ (bindings_in (named_view c.next.new.self))
-      (λ b is. bindings_next _ (named_view c.loop-name.name-iterator) (named_view c.next.new.self) c.in-Some.name.now.now (view c.in-Some.document.now.now) b
+      (λ b is. bindings_next _ (named_view c.loop-name.name-iterator) (named_view c.next.new.self) c.in-Some.name.now.now (view c.in-Some.document.now.value.now) b
       (map binding_view c.loop-name.bindings.items) c.loop-name.invariant.left (ap named_view c.in-Some.ensures.steps) is);
 }

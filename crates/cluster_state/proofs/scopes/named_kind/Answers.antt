@@ -1,6 +1,6 @@
 -- Proof obligations of `scopes::named_kind`.
 use Rattle.cluster_state.proofs.Prelude.{◌∙◌, ◌&&◌, ap, bytes_eq, codes, option_map, sym, text_of, view}
-use Rattle.admission_documents.specs.Documents.{field_of}
+use Rattle.json_fields.specs.Fields.{field_of}
 use Rattle.cluster_state.specs.Items.{group_in}
 use Rattle.cluster_state.specs.Scopes.{serves_version}
 use Rattle.cluster_state.proofs.Scoped.{no_kind, of_kind}

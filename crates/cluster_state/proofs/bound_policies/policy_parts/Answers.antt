@@ -1,8 +1,8 @@
--- Proofs of `policy::policy_parts`: the result meets the contract.
+-- Proofs of `bound_policies::policy_parts`: the result meets the contract.
 
 use Rattle.cluster_state.proofs.Prelude.{◌∙◌, ap, match_constraints_of, param_kind_of, sym}
 use Rattle.cluster_state.proofs.Parts.{policy_refused, policy_whole}
-use Rattle.cluster_state.proofs.policy.policy_parts.Goals as goal
+use Rattle.cluster_state.proofs.bound_policies.policy_parts.Goals as goal
 
 pub returns-in-Some : goal.returns-in-Some
 returns-in-Some c =

@@ -1,6 +1,0 @@
--- Termination measure of `policy_document::without_nulls`.
-use Rattle.std.proofs.Common.{length}
-use Rattle.cluster_gate.proofs.policy_document.+without_nulls.Given as goal
-
-abbrev pub decreases-without_nulls : goal.decreases-without_nulls
-decreases-without_nulls l = length l.keys.now
