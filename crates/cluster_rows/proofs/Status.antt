@@ -10,7 +10,7 @@ use Rattle.policy_glue.specs.Response.{review_tree}
 use Rattle.policy_glue.specs.Rejections.{Rejection, response_text}
 use Rattle.cluster_response.specs.Events.{Undecided, EventSummary, summary_of}
 use Rattle.cluster_response.specs.Response.{answer_by, cluster_response, status_of}
-use Rattle.gatekeeper_runner.specs.Lines.{refusal_text}
+use Rattle.gatekeeper_runner.specs.Refusals.{refusal_text}
 use Rattle.cluster_rows.specs.Status.{ResponsesPassIfAllowed, RefusalsDoNotPass, ClusterAnswersPassIfAllowed}
 
 -- a text with a first byte passes if it begins as an answer that allows does

@@ -29,14 +29,15 @@ use Rattle.cluster_state.specs.declared.state_error.StateError.TheVariants.{NoNa
 use Rattle.cluster_state.specs.declared.state_error.StateError.TheVariants.{InvalidPolicy, Memory}
 use Rattle.wide_policy.specs.declared.wide_policy_error.WidePolicyError.TheVariants.{HasAuditAnnotations}
 use Rattle.cluster_gate.specs.declared.block_cause.BlockCause.TheVariants.{Refused, NamesNamespace, UnknownParamKind}
-use Rattle.gatekeeper_runner.specs.ClusterEnding.{ending_of}
-use Rattle.gatekeeper_runner.specs.ClusterLines.{decision_text}
-use Rattle.gatekeeper_runner.specs.ClusterStarting.{cause_code, cause_text, code_and_name, fault_line, fault_text, state_text}
-use Rattle.gatekeeper_runner.specs.ClusterTelling.{block_text, params_text, policy_line}
+use Rattle.gatekeeper_runner.specs.Endings.{ending_of}
+use Rattle.gatekeeper_runner.specs.Cluster.Lines.{decision_text}
+use Rattle.gatekeeper_runner.specs.Cluster.Starting.{cause_code, cause_text, code_and_name, fault_line, fault_text, state_text}
+use Rattle.gatekeeper_runner.specs.Cluster.Telling.{block_text, params_text, policy_line}
 use Rattle.host.specs.declared.file_failure.FileFailure.TheVariants.{NotFound, PermissionDenied, IsADirectory, Other}
 use Rattle.gatekeeper_runner.specs.FileFaults.{file_text}
-use Rattle.gatekeeper_runner.specs.Lines.{answer_text, refusal_text, too_long_text, uid_shown}
-use Rattle.gatekeeper_runner.specs.Together.{PolicyResult, Refused as RefusedReview, and_also, joined, rejections, told_refusal}
+use Rattle.gatekeeper_runner.specs.Policies.Lines.{answer_text}
+use Rattle.gatekeeper_runner.specs.Refusals.{refusal_text, too_long_text, uid_shown, Refused as RefusedReview}
+use Rattle.gatekeeper_runner.specs.Policies.Together.{PolicyResult, and_also, joined, rejections, told_refusal}
 use Rattle.gatekeeper_runner.specs.declared.cluster_fault.ClusterFault.TheVariants.{NoList, NoState, Blocked, InFile}
 use Rattle.gatekeeper_runner.specs.declared.file_fault.FileFault.{FileFault}
 use Rattle.gatekeeper_runner.specs.declared.file_fault.FileFault.TheVariants as file_fault

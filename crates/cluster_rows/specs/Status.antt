@@ -5,8 +5,7 @@ use Rattle.policy_glue.specs.Rejections.{Rejection, response_text}
 use Rattle.admission_documents.specs.Requests.{Request}
 use Rattle.cluster_response.specs.Events.{Event, summary_of}
 use Rattle.cluster_response.specs.Response.{cluster_response, status_of}
-use Rattle.gatekeeper_runner.specs.Lines.{refusal_text}
-use Rattle.gatekeeper_runner.specs.Together.{Refused}
+use Rattle.gatekeeper_runner.specs.Refusals.{refusal_text, Refused}
 
 -- the response of policies that decide together passes exactly if they do not reject the request
 abbrev pub ResponsesPassIfAllowed : Type 0

@@ -3,8 +3,9 @@ use Rattle.std.specs.Prelude.{◌≡◌, true, false, ℕ, List, [], ◌∷◌, 
 use Rattle.clap.specs.Words.{Text}
 use Rattle.host.specs.declared.order_error.OrderError.TheVariants.{InvalidArguments}
 use Rattle.gatekeeper_runner.specs.About.{text_asked, version_text}
-use Rattle.gatekeeper_runner.specs.Orders.{by_cluster, by_policies, by_translation, entered, faults, has_status, is_partial, is_profile}
-use Rattle.gatekeeper_runner.specs.Orders.{is_verbose, leaves_messages, order_from, order_of_words}
+use Rattle.gatekeeper_runner.specs.Orders.{LinesOrder, by_cluster, by_policies, by_translation, entered, faults, has_switch}
+use Rattle.gatekeeper_runner.specs.Orders.{order_from, order_of_words}
+use Rattle.gatekeeper_runner.specs.declared.settings.Settings.{Settings}
 use Rattle.wide_policy.specs.declared.message_rule.MessageRule.TheVariants.{Required, LeftOut}
 use Rattle.admission.specs.declared.language.Language.TheVariants.{Profile, Wide}
 use Rattle.admission.specs.declared.limits.Limits.{Limits}
@@ -33,151 +34,52 @@ with_reads number = under_policy ++ codes "--reads" ∷ number ∷ []
 abbrev pub limited : ℕ → ℕ → Limits
 limited steps reads = record { steps = steps; reads = reads }
 
--- the limits of a policy's program if none are given
-abbrev pub by_default : Limits
-by_default = limited 10000000 16777216
+-- how lines are answered if the words name files alone: 10,000,000 steps, 16,777,216 bytes read and lines of 16 MiB
+abbrev pub by_default : Settings
+by_default = record {
+  language = Wide Required;
+  limits = limited 10000000 16777216;
+  max_line = 16777216;
+  verbose = false;
+  status = false;
+}
 
--- what command lines ask for: 10,000,000 steps, 16,777,216 bytes read and lines of 16 MiB by default
+-- lines are answered under the policy in a.json
+abbrev pub of_policy : Settings → LinesOrder
+of_policy settings = by_policies (record { policies = codes "a.json" ∷ []; namespace = None; params = None; settings = settings })
+
+-- lines are answered as the cluster in c.json does, in which no policy may be refused
+abbrev pub of_cluster : Settings → LinesOrder
+of_cluster settings = by_cluster (record { files = codes "c.json" ∷ []; partial = false; settings = settings })
+
+-- what command lines ask for
 pub record CommandOrdersHold : Type 0 where
-  pub policy : order_from (entered under_policy)
-      ≡ by_policies (record {
-        policies = codes "a.json" ∷ [];
-        language = Wide Required;
-        namespace = None;
-        params = None;
-        limits = by_default;
-        max_line = 16777216;
-        verbose = false;
-        status = false;
-      })
+  pub policy : order_from (entered under_policy) ≡ of_policy by_default
   pub more : order_from
       (entered (under_policy
       ++ codes "--policy" ∷ codes "b.json" ∷ codes "--namespace" ∷ codes "n.json" ∷ codes "--steps" ∷ codes "5" ∷ []))
       ≡ by_policies (record {
         policies = codes "a.json" ∷ codes "b.json" ∷ [];
-        language = Wide Required;
         namespace = Some (codes "n.json");
         params = None;
-        limits = limited 5 16777216;
-        max_line = 16777216;
-        verbose = false;
-        status = false;
+        settings = record by_default { limits = limited 5 16777216 };
       })
-  pub reads : order_from (entered (with_reads (codes "7")))
-      ≡ by_policies (record {
-        policies = codes "a.json" ∷ [];
-        language = Wide Required;
-        namespace = None;
-        params = None;
-        limits = limited 10000000 7;
-        max_line = 16777216;
-        verbose = false;
-        status = false;
-      })
-  pub cluster : order_from (entered as_cluster)
-      ≡ by_cluster (record {
-        files = codes "c.json" ∷ [];
-        language = Wide Required;
-        partial = false;
-        limits = by_default;
-        max_line = 16777216;
-        verbose = false;
-        status = false;
-      })
-  pub limited_cluster : order_from
-      (entered (as_cluster ++ codes "--reads" ∷ codes "0" ∷ codes "--steps" ∷ codes "5" ∷ []))
-      ≡ by_cluster (record {
-        files = codes "c.json" ∷ [];
-        language = Wide Required;
-        partial = false;
-        limits = limited 5 0;
-        max_line = 16777216;
-        verbose = false;
-        status = false;
-      })
+  pub reads : order_from (entered (with_reads (codes "7"))) ≡ of_policy (record by_default { limits = limited 10000000 7 })
+  pub cluster : order_from (entered as_cluster) ≡ of_cluster by_default
+  pub limited_cluster : order_from (entered (as_cluster ++ codes "--reads" ∷ codes "0" ∷ codes "--steps" ∷ codes "5" ∷ []))
+      ≡ of_cluster (record by_default { limits = limited 5 0 })
   pub partial : order_from (entered (as_cluster ++ codes "--partial" ∷ []))
-      ≡ by_cluster (record {
-        files = codes "c.json" ∷ [];
-        language = Wide Required;
-        partial = true;
-        limits = by_default;
-        max_line = 16777216;
-        verbose = false;
-        status = false;
-      })
-  pub verbose : order_from (entered (under_policy ++ codes "--verbose" ∷ []))
-      ≡ by_policies (record {
-        policies = codes "a.json" ∷ [];
-        language = Wide Required;
-        namespace = None;
-        params = None;
-        limits = by_default;
-        max_line = 16777216;
-        verbose = true;
-        status = false;
-      })
+      ≡ by_cluster (record { files = codes "c.json" ∷ []; partial = true; settings = by_default })
+  pub verbose : order_from (entered (under_policy ++ codes "--verbose" ∷ [])) ≡ of_policy (record by_default { verbose = true })
   pub verbose_cluster : order_from (entered (codes "gatekeeper" ∷ codes "--verbose" ∷ codes "--cluster" ∷ codes "c.json" ∷ []))
-      ≡ by_cluster (record {
-        files = codes "c.json" ∷ [];
-        language = Wide Required;
-        partial = false;
-        limits = by_default;
-        max_line = 16777216;
-        verbose = true;
-        status = false;
-      })
-  pub status : order_from (entered (under_policy ++ codes "--status" ∷ []))
-      ≡ by_policies (record {
-        policies = codes "a.json" ∷ [];
-        language = Wide Required;
-        namespace = None;
-        params = None;
-        limits = by_default;
-        max_line = 16777216;
-        verbose = false;
-        status = true;
-      })
+      ≡ of_cluster (record by_default { verbose = true })
+  pub status : order_from (entered (under_policy ++ codes "--status" ∷ [])) ≡ of_policy (record by_default { status = true })
   pub status_cluster : order_from (entered (as_cluster ++ codes "--status" ∷ codes "--verbose" ∷ []))
-      ≡ by_cluster (record {
-        files = codes "c.json" ∷ [];
-        language = Wide Required;
-        partial = false;
-        limits = by_default;
-        max_line = 16777216;
-        verbose = true;
-        status = true;
-      })
-  pub profile : order_from (entered (under_policy ++ codes "--profile" ∷ []))
-      ≡ by_policies (record {
-        policies = codes "a.json" ∷ [];
-        language = Profile;
-        namespace = None;
-        params = None;
-        limits = by_default;
-        max_line = 16777216;
-        verbose = false;
-        status = false;
-      })
-  pub profile_cluster : order_from (entered (as_cluster ++ codes "--profile" ∷ []))
-      ≡ by_cluster (record {
-        files = codes "c.json" ∷ [];
-        language = Profile;
-        partial = false;
-        limits = by_default;
-        max_line = 16777216;
-        verbose = false;
-        status = false;
-      })
+      ≡ of_cluster (record by_default { verbose = true; status = true })
+  pub profile : order_from (entered (under_policy ++ codes "--profile" ∷ [])) ≡ of_policy (record by_default { language = Profile })
+  pub profile_cluster : order_from (entered (as_cluster ++ codes "--profile" ∷ [])) ≡ of_cluster (record by_default { language = Profile })
   pub leave_messages : order_from (entered (as_cluster ++ codes "--leave-messages" ∷ []))
-      ≡ by_cluster (record {
-        files = codes "c.json" ∷ [];
-        language = Wide LeftOut;
-        partial = false;
-        limits = by_default;
-        max_line = 16777216;
-        verbose = false;
-        status = false;
-      })
+      ≡ of_cluster (record by_default { language = Wide LeftOut })
 
 -- the same of command lines that name a translation
 pub record TranslationOrdersHold : Type 0 where
@@ -194,7 +96,8 @@ pub record TranslationOrdersHold : Type 0 where
 pub record FaultRowsHold : Type 0 where
   pub policy_taken : faults under_policy ≡ []
   pub partial_taken : faults (as_cluster ++ codes "--partial" ∷ []) ≡ []
-  pub not_partial : is_partial [] ≡ false
+  pub no_switch : has_switch (codes "partial") [] ≡ false
+  pub partial_is_no_other_switch : has_switch (codes "verbose") (entered (as_cluster ++ codes "--partial" ∷ [])) ≡ false
   -- --partial is a switch, and goes with --cluster alone
   pub partial_twice : faults (as_cluster ++ codes "--partial" ∷ codes "--partial" ∷ []) ≡ [] → ⊥
   pub partial_policy : faults (under_policy ++ codes "--partial" ∷ []) ≡ [] → ⊥
@@ -206,20 +109,16 @@ pub record FaultRowsHold : Type 0 where
   pub verbose_taken : faults (under_policy ++ codes "--verbose" ∷ []) ≡ []
   pub verbose_twice : faults (under_policy ++ codes "--verbose" ∷ codes "--verbose" ∷ []) ≡ [] → ⊥
   pub verbose_value : faults (under_policy ++ codes "--verbose" ∷ codes "yes" ∷ []) ≡ [] → ⊥
-  pub not_verbose : is_verbose [] ≡ false
   -- so is --status
   pub status_taken : faults (as_cluster ++ codes "--status" ∷ []) ≡ []
   pub status_twice : faults (under_policy ++ codes "--status" ∷ codes "--status" ∷ []) ≡ [] → ⊥
   pub status_value : faults (under_policy ++ codes "--status" ∷ codes "1" ∷ []) ≡ [] → ⊥
-  pub no_status : has_status [] ≡ false
   -- --profile and --leave-messages are switches, of which the second goes with --cluster alone, without the first
   pub profile_taken : faults (under_policy ++ codes "--profile" ∷ []) ≡ []
   pub profile_twice : faults (under_policy ++ codes "--profile" ∷ codes "--profile" ∷ []) ≡ [] → ⊥
-  pub not_profile : is_profile [] ≡ false
   pub leave_messages_taken : faults (as_cluster ++ codes "--leave-messages" ∷ []) ≡ []
   pub leave_messages_policy : faults (under_policy ++ codes "--leave-messages" ∷ []) ≡ [] → ⊥
   pub leave_messages_profile : faults (as_cluster ++ codes "--leave-messages" ∷ codes "--profile" ∷ []) ≡ [] → ⊥
-  pub keeps_messages : leaves_messages [] ≡ false
   -- --translate goes with --leave-messages alone, in either order, and with no option at its default
   pub translate_taken : faults translating ≡ []
   pub translate_value : faults (codes "gatekeeper" ∷ codes "--translate=a.json" ∷ []) ≡ []

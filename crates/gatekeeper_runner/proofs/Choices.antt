@@ -1,16 +1,18 @@
 -- Words that clap takes, and that go together.
-use Rattle.gatekeeper_runner.proofs.Prelude.{◌≡◌, ◌∙◌, take_all, true, false, List, [], ◌∷◌, ◌++◌, ap, arith, refl, sym, Ok, Result, Kinds, Row, Text, entered, fault_of, faults, gatekeeper_app}
+use Rattle.gatekeeper_runner.proofs.Prelude.{◌≡◌, ◌∙◌, take_all, true, false, List, [], ◌∷◌, ◌++◌, ap, arith, refl, sym, Ok, Err, Result, Kinds, Row, Text, entered, fault_of, faults, gatekeeper_app}
 use Rattle.gatekeeper_runner.proofs.Prelude.{choice_faults, go_together, lines_faults, lines_order_view, matches_of, order_of_words, translation_app, translation_from, is_translate}
 use Rattle.gatekeeper_runner.proofs.Prelude.{GatekeeperOrderReturns, InvalidArguments, OrderError}
 use Rattle.std.specs.Borrow.{Bor}
 use Rattle.std.specs.List.{list_any}
 use Rattle.std.specs.Prelude.{Bool, ℕ, ◌-◌, ◌||◌, ◌≤◌, drop, length, map, take}
 use Rattle.cli.specs.Parsing.{IsNotTaken, TakesWords}
+use Rattle.cli.proofs.Endings.{words_refused}
 use Rattle.host.specs.declared.order_error.OrderError.TheVariants as order_error
 use Rattle.gatekeeper_runner.specs.Orders.{asks_translation, by_translation, order_from, translation_order_view}
+use Rattle.gatekeeper_runner.specs.Program.{AsksOrder}
 use Rattle.gatekeeper_runner.specs.declared.order.Order.{Order as CodeOrder}
 use Rattle.gatekeeper_runner.specs.declared.order.Order.TheVariants as code
-use Rattle.gatekeeper_runner.specs.declared.translation_order.TranslationOrder.{TranslationOrder}
+use Rattle.gatekeeper_runner.specs.declared.translating.order.TranslationOrder.{TranslationOrder}
 
 -- two lists together are empty only if the first is
 none_first : (ks ls : Kinds) → ks ++ ls ≡ [] → ks ≡ []
@@ -45,6 +47,11 @@ not_taken words order_error.Memory some = tt
 pub not_together : (words : List Text) → go_together (entered words) ≡ false → lines_faults words ≡ [] → ⊥
 unfolding lines_faults
 not_together words apart none = some_choice (entered words) apart (none_second _ _ none)
+
+-- what words that are given ask for
+pub asked : (words : List Text) (r : Result CodeOrder OrderError) → GatekeeperOrderReturns words r → AsksOrder (Ok words) r
+asked words (Ok o) ordered = record { words = words; are_given = refl; are_taken = ordered.0; asked = ordered.1 }
+asked words (Err e) refused = words_refused faults words e refused
 
 -- ---- --translate
 

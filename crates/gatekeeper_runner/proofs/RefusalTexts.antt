@@ -6,9 +6,8 @@ use Rattle.json.specs.Written.{Written}
 use Rattle.serde_json.proofs.Texts.{print-outline}
 use Rattle.serde_json.specs.Written.{compact_text}
 use Rattle.admission.specs.ErrorCodes.{run_error_code}
-use Rattle.gatekeeper_runner.specs.Lines.{refusal_tree}
+use Rattle.gatekeeper_runner.specs.Refusals.{refusal_tree, refusal_tokens}
 use Rattle.policy_glue.specs.ResponseTokens.{AddsTokens}
-use Rattle.gatekeeper_runner.specs.RefusalTokens.{refusal_tokens}
 
 refusal_is : (name : List ℕ) (uid : Option (List ℕ)) (label : Option RefusingPolicy) → print (refusal_tokens name uid label) ≡ compact_text (refusal_tree name uid label)
 refusal_is name None None = print-outline (refusal_tree name None None)

@@ -5,9 +5,10 @@ use Rattle.wide_policy.specs.declared.left_out.LeftOut.{LeftOut}
 use Rattle.wide_policy.specs.declared.message_rule.MessageRule.{MessageRule}
 use Rattle.wide_policy.specs.declared.policy.WidePolicy.{WidePolicy}
 use Rattle.admission.specs.declared.language.Language.TheVariants.{Wide}
-use Rattle.gatekeeper_runner.specs.ClusterTelling.{note_lines}
+use Rattle.gatekeeper_runner.specs.Cluster.Telling.{note_lines}
 use Rattle.gatekeeper_runner.specs.Orders.{TranslationOrder}
-use Rattle.gatekeeper_runner.specs.Together.{label_of, label_view}
+use Rattle.gatekeeper_runner.specs.Policies.Together.{label_of}
+use Rattle.gatekeeper_runner.specs.Refusals.{label_view}
 use Rattle.policy_translation.specs.Translations.{HasTranslation}
 use Rattle.gatekeeper_runner.specs.Translating.{Translates, TranslationTexts, told_name, translated}
 use Rattle.policy_translation.specs.TranslationText.{translation_text}

@@ -17,35 +17,20 @@ use Rattle.host.specs.declared.order_error.OrderError.{OrderError}
 use Rattle.wide_policy.specs.declared.message_rule.MessageRule.{MessageRule, TheVariants.Required, TheVariants.LeftOut}
 use Rattle.admission.specs.declared.language.Language.{Language, TheVariants.Profile, TheVariants.Wide}
 use Rattle.admission.specs.declared.limits.Limits.{Limits}
-use Rattle.gatekeeper_runner.specs.declared.cluster_order.ClusterOrder.{ClusterOrder as CodeClusterOrder}
+use Rattle.gatekeeper_runner.specs.declared.cluster.order.ClusterOrder.{ClusterOrder as CodeClusterOrder}
 use Rattle.gatekeeper_runner.specs.declared.order.Order.{Order as CodeOrder}
 use Rattle.gatekeeper_runner.specs.declared.order.Order.TheVariants as code
-use Rattle.gatekeeper_runner.specs.declared.policy_order.PolicyOrder.{PolicyOrder as CodePolicyOrder}
-use Rattle.gatekeeper_runner.specs.declared.translation_order.TranslationOrder.{TranslationOrder as CodeTranslationOrder}
+use Rattle.gatekeeper_runner.specs.declared.policies.order.PolicyOrder.{PolicyOrder as CodePolicyOrder}
+use Rattle.gatekeeper_runner.specs.declared.settings.Settings.{Settings}
+use Rattle.gatekeeper_runner.specs.declared.translating.order.TranslationOrder.{TranslationOrder as CodeTranslationOrder}
 
 -- an option with a file's name, once or more
 unfoldable pub files_rule : Text → Rule
 files_rule name = record (option_rule name) { action = Some arg_action.Append }
 
--- --partial, a switch
-unfoldable pub partial_rule : Rule
-partial_rule = record (option_rule (codes "partial")) { action = Some arg_action.SetTrue }
-
--- --verbose, a switch
-unfoldable pub verbose_rule : Rule
-verbose_rule = record (option_rule (codes "verbose")) { action = Some arg_action.SetTrue }
-
--- --status, a switch
-unfoldable pub status_rule : Rule
-status_rule = record (option_rule (codes "status")) { action = Some arg_action.SetTrue }
-
--- --profile, a switch
-unfoldable pub profile_rule : Rule
-profile_rule = record (option_rule (codes "profile")) { action = Some arg_action.SetTrue }
-
--- --leave-messages, a switch
-unfoldable pub leave_messages_rule : Rule
-leave_messages_rule = record (option_rule (codes "leave-messages")) { action = Some arg_action.SetTrue }
+-- a switch
+unfoldable pub switch_rule : Text → Rule
+switch_rule name = record (option_rule name) { action = Some arg_action.SetTrue }
 
 -- the largest value of --max-line, and its default
 abbrev pub longest_line : ℕ
@@ -67,17 +52,18 @@ policies_app = with_documents (with_rule (new_app (codes "gatekeeper")) (files_r
 -- [--status]
 unfoldable pub lines_app : App
 lines_app =
-    with_rule (with_rule (with_rule (with_rule (with_rule (with_rule (with_rule policies_app (files_rule (codes "cluster"))) partial_rule)
-    steps_rule) reads_rule) max_line_rule) verbose_rule) status_rule
+    with_rule (with_rule (with_rule (with_rule (with_rule (with_rule (with_rule policies_app (files_rule (codes "cluster")))
+    (switch_rule (codes "partial"))) steps_rule) reads_rule) max_line_rule) (switch_rule (codes "verbose")))
+    (switch_rule (codes "status"))
 
 -- these, and [--profile] [--leave-messages]
 unfoldable pub gatekeeper_app : App
-gatekeeper_app = with_rule (with_rule lines_app profile_rule) leave_messages_rule
+gatekeeper_app = with_rule (with_rule lines_app (switch_rule (codes "profile"))) (switch_rule (codes "leave-messages"))
 
 -- what is asked of a translation: --translate F [--leave-messages]
 unfoldable pub translation_app : App
 translation_app =
-    with_rule (with_rule (new_app (codes "gatekeeper")) (required_option_rule (codes "translate"))) leave_messages_rule
+    with_rule (with_rule (new_app (codes "gatekeeper")) (required_option_rule (codes "translate"))) (switch_rule (codes "leave-messages"))
 
 -- ---- words that go together
 
@@ -86,24 +72,8 @@ abbrev pub is_named : Text → List Row → Bool
 is_named id rows = is_some (first_of id rows)
 
 -- the switch was given
-abbrev pub is_partial : List Row → Bool
-is_partial rows = option_map_or (λ t. bytes_eq t (codes "true")) (first_of (codes "partial") rows) false
-
--- --verbose was given
-abbrev pub is_verbose : List Row → Bool
-is_verbose rows = option_map_or (λ t. bytes_eq t (codes "true")) (first_of (codes "verbose") rows) false
-
--- --status was given
-abbrev pub has_status : List Row → Bool
-has_status rows = option_map_or (λ t. bytes_eq t (codes "true")) (first_of (codes "status") rows) false
-
--- --profile was given
-abbrev pub is_profile : List Row → Bool
-is_profile rows = option_map_or (λ t. bytes_eq t (codes "true")) (first_of (codes "profile") rows) false
-
--- --leave-messages was given
-abbrev pub leaves_messages : List Row → Bool
-leaves_messages rows = option_map_or (λ t. bytes_eq t (codes "true")) (first_of (codes "leave-messages") rows) false
+abbrev pub has_switch : Text → List Row → Bool
+has_switch id rows = option_map_or (λ t. bytes_eq t (codes "true")) (first_of id rows) false
 
 -- with --cluster there is no --policy, --namespace or --params, and not both of --profile and --leave-messages; without it
 -- there is --policy, and no --partial or --leave-messages
@@ -111,8 +81,8 @@ abbrev pub go_together : List Row → Bool
 go_together rows =
     if is_named (codes "cluster") rows
     then not (is_named (codes "policy") rows) && (not (is_named (codes "namespace") rows) && (not (is_named (codes "params") rows)
-    && not (is_profile rows && leaves_messages rows)))
-    else is_named (codes "policy") rows && (not (is_partial rows) && not (leaves_messages rows))
+    && not (has_switch (codes "profile") rows && has_switch (codes "leave-messages") rows)))
+    else is_named (codes "policy") rows && (not (has_switch (codes "partial") rows) && not (has_switch (codes "leave-messages") rows))
 
 -- the reason to refuse arguments that do not go together
 abbrev pub choice_faults : List Row → Kinds
@@ -141,29 +111,19 @@ faults words = if asks_translation words then fault_of translation_app words els
 
 -- ---- what they ask for
 
--- the names of the files, the policies in the order of the words and their language, the limits of a policy's program, the
--- most bytes of a line, whether refused lines are reported, and whether the status reports answers that do not allow
+-- the names of the files: of the policies, in the order of the words, and of the other documents; and how lines are answered
 pub record GatekeeperOrder : Type 0 where
   pub policies : List Text
-  pub language : Language
   pub namespace : Option Text
   pub params : Option Text
-  pub limits : Limits
-  pub max_line : ℕ
-  pub verbose : Bool
-  pub status : Bool
+  pub settings : Settings
 
--- the names of the files of a cluster's state in the order of the words, the language of its policies, whether a policy
--- may be refused, the limits of a policy's program, the most bytes of a line, whether refused lines are reported, and whether the status
--- reports answers that do not allow
+-- the names of the files of a cluster's state in the order of the words, whether a policy may be refused, and how lines are
+-- answered
 pub record ClusterOrder : Type 0 where
   pub files : List Text
-  pub language : Language
   pub partial : Bool
-  pub limits : Limits
-  pub max_line : ℕ
-  pub verbose : Bool
-  pub status : Bool
+  pub settings : Settings
 
 -- the name of the file of the policy that is translated, and what happens to a message expression that is refused
 pub record TranslationOrder : Type 0 where
@@ -198,35 +158,38 @@ max_line_from rows = unwrap_or (number_of (one_of (codes "max-line") rows)) long
 
 -- a message expression that is refused is left out if --leave-messages is given
 abbrev pub rule_from : List Row → MessageRule
-rule_from rows = if leaves_messages rows then LeftOut else Required
+rule_from rows = if has_switch (codes "leave-messages") rows then LeftOut else Required
 
 -- the language of the policies: the wide one, unless --profile is given
 abbrev pub language_from : List Row → Language
-language_from rows = if is_profile rows then Profile else Wide (rule_from rows)
+language_from rows = if has_switch (codes "profile") rows then Profile else Wide (rule_from rows)
+
+-- the language of the policies, the limits of a policy's program, the most bytes of a line, whether refused lines are
+-- reported, and whether the status reports answers that do not allow
+abbrev pub settings_from : List Row → Settings
+settings_from rows = record {
+  language = language_from rows;
+  limits = limits_from rows;
+  max_line = max_line_from rows;
+  verbose = has_switch (codes "verbose") rows;
+  status = has_switch (codes "status") rows;
+}
 
 -- from the values of the arguments
 unfoldable pub policies_from : List Row → GatekeeperOrder
 policies_from rows = record {
   policies = texts_of (codes "policy") rows;
-  language = language_from rows;
   namespace = first_of (codes "namespace") rows;
   params = first_of (codes "params") rows;
-  limits = limits_from rows;
-  max_line = max_line_from rows;
-  verbose = is_verbose rows;
-  status = has_status rows;
+  settings = settings_from rows;
 }
 
 -- from the values of the arguments
 unfoldable pub cluster_from : List Row → ClusterOrder
 cluster_from rows = record {
   files = texts_of (codes "cluster") rows;
-  language = language_from rows;
-  partial = is_partial rows;
-  limits = limits_from rows;
-  max_line = max_line_from rows;
-  verbose = is_verbose rows;
-  status = has_status rows;
+  partial = has_switch (codes "partial") rows;
+  settings = settings_from rows;
 }
 
 -- by whether files of a cluster's state are named
@@ -248,25 +211,13 @@ order_of_words words =
 abbrev pub order_view : CodePolicyOrder → GatekeeperOrder
 order_view o = record {
   policies = map string_bytes o.policies.items;
-  language = o.language;
   namespace = option_map string_bytes o.namespace;
   params = option_map string_bytes o.params;
-  limits = o.limits;
-  max_line = o.max_line;
-  verbose = o.verbose;
-  status = o.status;
+  settings = o.settings;
 }
 
 abbrev pub cluster_order_view : CodeClusterOrder → ClusterOrder
-cluster_order_view o = record {
-  files = map string_bytes o.files.items;
-  language = o.language;
-  partial = o.partial;
-  limits = o.limits;
-  max_line = o.max_line;
-  verbose = o.verbose;
-  status = o.status;
-}
+cluster_order_view o = record { files = map string_bytes o.files.items; partial = o.partial; settings = o.settings }
 
 abbrev pub translation_order_view : CodeTranslationOrder → TranslationOrder
 translation_order_view o = record { file = string_bytes o.file; rule = o.rule }

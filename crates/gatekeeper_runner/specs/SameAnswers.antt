@@ -3,11 +3,11 @@ use Rattle.std.specs.Prelude.{◌≡◌, ◌≢◌, ℕ, List, Option, Ok}
 use Rattle.host.specs.FileSystem.{FileSystem}
 use Rattle.policy_glue.specs.OneImage.{OneImage}
 use Rattle.line_answers.specs.Lines.{no_memory_text}
-use Rattle.gatekeeper_runner.specs.ClusterLines.{AnswersClusterLine}
-use Rattle.gatekeeper_runner.specs.ClusterStarting.{AnsweringCluster, ClusterStarts}
-use Rattle.gatekeeper_runner.specs.Lines.{AnswersReviewLine}
+use Rattle.gatekeeper_runner.specs.Cluster.Lines.{AnswersClusterLine}
+use Rattle.gatekeeper_runner.specs.Cluster.Starting.{AnsweringCluster, ClusterStarts}
+use Rattle.gatekeeper_runner.specs.Policies.Lines.{AnswersReviewLine}
 use Rattle.gatekeeper_runner.specs.Orders.{ClusterOrder}
-use Rattle.gatekeeper_runner.specs.Together.{Gatekeeper}
+use Rattle.gatekeeper_runner.specs.Policies.Together.{Gatekeeper}
 
 -- two answers to one line are the same if neither reports a failed allocation
 abbrev pub LinesHaveOneAnswer : Type 0

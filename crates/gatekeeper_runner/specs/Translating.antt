@@ -5,15 +5,15 @@ use Rattle.wide_policy.specs.declared.message_rule.MessageRule.{MessageRule}
 use Rattle.wide_policy.specs.declared.policy.WidePolicy.{WidePolicy}
 use Rattle.admission.specs.declared.language.Language.TheVariants.{Wide}
 use Rattle.clap.specs.Words.{Text}
-use Rattle.gatekeeper_runner.specs.ClusterTelling.{note_lines}
+use Rattle.gatekeeper_runner.specs.Cluster.Telling.{note_lines}
 use Rattle.gatekeeper_runner.specs.Orders.{TranslationOrder}
-use Rattle.gatekeeper_runner.specs.Starting.{HasFileFault, IsUnopened}
-use Rattle.gatekeeper_runner.specs.Together.{label_of}
+use Rattle.gatekeeper_runner.specs.Policies.Starting.{HasFileFault, IsUnopened}
+use Rattle.gatekeeper_runner.specs.Policies.Together.{label_of}
 use Rattle.policy_translation.specs.Translations.{HasTranslation}
 use Rattle.policy_translation.specs.TranslationText.{translation_text}
 use Rattle.gatekeeper_runner.specs.declared.file_fault.FileFault.{FileFault}
 use Rattle.gatekeeper_runner.specs.declared.start_refusal.StartRefusal.{StartRefusal}
-use Rattle.gatekeeper_runner.specs.declared.translation.Translation.{Translation as CodeTranslation}
+use Rattle.gatekeeper_runner.specs.declared.translating.translation.Translation.{Translation as CodeTranslation}
 
 -- what is written: to standard error for the message expressions that are left out, and to standard output
 pub record TranslationTexts : Type 0 where

@@ -1,5 +1,5 @@
 //! The help and version texts.
-ghost use Rattle.std.specs.Prelude.{◌≡◌, [], ◌∷◌, map, option_map, string_bytes};
+ghost use Rattle.std.specs.Prelude.{◌≡◌, map, option_map, string_bytes};
 ghost use Rattle.std.specs.List.{list_any};
 ghost use Rattle.cli.specs.Ending.{given_of};
 ghost use Rattle.gatekeeper_runner.specs.About.{help_text, is_help, text_after_name, text_asked, text_of_words, version_asked, version_text};
@@ -48,13 +48,7 @@ fn asks_help(words: &[String]) -> bool
 fn some_is_help(words: &[String]) -> bool
     ensures { result ≡ list_any (λ w. is_help (string_bytes w)) words.now }
 {
-    words.iter().any(|word| is_help(word.as_str()))
-}
-
-fn is_help(word: &str) -> bool
-    ensures { result ≡ is_help word.now }
-{
-    word == "--help"
+    words.iter().any(|word| word.as_str() == "--help")
 }
 
 /// The text for `--version`, if it is the first of these words.
@@ -63,17 +57,13 @@ fn version_asked(words: &[String]) -> Option<&'static str>
 {
     match words {
         [] => None,
-        [word, ..] => version_of(word.as_str()),
-    }
-}
-
-fn version_of(word: &str) -> Option<&'static str>
-    ensures { option_map (λ s. s.now) result ≡ version_asked (word.now ∷ []) }
-{
-    if word == "--version" {
-        Some(version_text())
-    } else {
-        None
+        [word, ..] => {
+            if word.as_str() == "--version" {
+                Some(version_text())
+            } else {
+                None
+            }
+        }
     }
 }
 

@@ -1,14 +1,16 @@
 //! The command line as it is declared to `clap`.
-ghost use Rattle.std.specs.Prelude.{◌≡◌, codes, map, IfOk, false};
+ghost use Rattle.std.specs.Prelude.{◌≡◌, map, IfOk, false};
 ghost use Rattle.clap.specs.Words.{app_of, fault_of, found_of, rows_of, rule_of};
 ghost use Rattle.cli.specs.Parsing.{TakesWords};
-ghost use Rattle.gatekeeper_runner.specs.Orders.{entered, files_rule, gatekeeper_app, leave_messages_rule, lines_app, max_line_rule, partial_rule, policies_app, profile_rule, status_rule, verbose_rule};
+ghost use Rattle.gatekeeper_runner.specs.Orders.{entered, files_rule, gatekeeper_app, lines_app, max_line_rule, policies_app, switch_rule};
 
-use crate::limits::LONGEST_LINE;
 use clap::{Arg, ArgAction, ArgMatches, Command, value_parser};
 use cli::{option_argument, parse, reads_argument, steps_argument, with_documents};
 use host::OrderError;
 use std::alloc::{AllocError, Global};
+
+/// The largest value of `--max-line`, in bytes, and its default.
+pub const LONGEST_LINE: u64 = 16_777_216;
 
 // --policy F, one or more times
 #[tactic(auto, unfolding(crate::specs::Orders::files_rule))]
@@ -19,13 +21,13 @@ fn files_argument<'a>(alloc: Global, name: &'a str) -> Arg<'a>
     option_argument(alloc, name).action(ArgAction::Append)
 }
 
-// --partial, a switch
-#[tactic(auto, unfolding(crate::specs::Orders::partial_rule))]
-fn partial_argument<'a>(alloc: Global) -> Arg<'a>
-    ensures rule { rule_of result ≡ partial_rule }
+// a switch
+#[tactic(auto, unfolding(crate::specs::Orders::switch_rule))]
+pub fn switch_argument<'a>(alloc: Global, name: &'a str) -> Arg<'a>
+    ensures rule { rule_of result ≡ switch_rule name.entry.now }
     ensures local { result.global ≡ false }
 {
-    option_argument(alloc, "partial").action(ArgAction::SetTrue)
+    option_argument(alloc, name).action(ArgAction::SetTrue)
 }
 
 // --max-line N, the largest length of a line in bytes
@@ -40,42 +42,6 @@ fn max_line_argument<'a>(alloc: Global) -> Arg<'a>
         .default_value("16777216")
 }
 
-// --verbose, a switch
-#[tactic(auto, unfolding(crate::specs::Orders::verbose_rule))]
-fn verbose_argument<'a>(alloc: Global) -> Arg<'a>
-    ensures rule { rule_of result ≡ verbose_rule }
-    ensures local { result.global ≡ false }
-{
-    option_argument(alloc, "verbose").action(ArgAction::SetTrue)
-}
-
-// --status, a switch
-#[tactic(auto, unfolding(crate::specs::Orders::status_rule))]
-fn status_argument<'a>(alloc: Global) -> Arg<'a>
-    ensures rule { rule_of result ≡ status_rule }
-    ensures local { result.global ≡ false }
-{
-    option_argument(alloc, "status").action(ArgAction::SetTrue)
-}
-
-// --profile, a switch
-#[tactic(auto, unfolding(crate::specs::Orders::profile_rule))]
-fn profile_argument<'a>(alloc: Global) -> Arg<'a>
-    ensures rule { rule_of result ≡ profile_rule }
-    ensures local { result.global ≡ false }
-{
-    option_argument(alloc, "profile").action(ArgAction::SetTrue)
-}
-
-// --leave-messages, a switch
-#[tactic(auto, unfolding(crate::specs::Orders::leave_messages_rule))]
-pub fn leave_messages_argument<'a>(alloc: Global) -> Arg<'a>
-    ensures rule { rule_of result ≡ leave_messages_rule }
-    ensures local { result.global ≡ false }
-{
-    option_argument(alloc, "leave-messages").action(ArgAction::SetTrue)
-}
-
 fn policies_command<'a>(alloc: Global) -> Result<Command<'a>, AllocError>
     ensures { IfOk result (λ c. app_of c ≡ policies_app) }
 {
@@ -88,19 +54,19 @@ fn lines_command<'a>(alloc: Global) -> Result<Command<'a>, AllocError>
 {
     let command = policies_command(alloc)?.arg(files_argument(alloc, "cluster"))?;
     let command = command
-        .arg(partial_argument(alloc))?
+        .arg(switch_argument(alloc, "partial"))?
         .arg(steps_argument(alloc))?;
     let command = command.arg(reads_argument(alloc))?;
     let command = command.arg(max_line_argument(alloc))?;
-    let command = command.arg(verbose_argument(alloc))?;
-    command.arg(status_argument(alloc))
+    let command = command.arg(switch_argument(alloc, "verbose"))?;
+    command.arg(switch_argument(alloc, "status"))
 }
 
 fn gatekeeper_command<'a>(alloc: Global) -> Result<Command<'a>, AllocError>
     ensures { IfOk result (λ c. app_of c ≡ gatekeeper_app) }
 {
-    let command = lines_command(alloc)?.arg(profile_argument(alloc))?;
-    command.arg(leave_messages_argument(alloc))
+    let command = lines_command(alloc)?.arg(switch_argument(alloc, "profile"))?;
+    command.arg(switch_argument(alloc, "leave-messages"))
 }
 
 /// The arguments that `clap` finds in the words, or its error. The program's name comes first.

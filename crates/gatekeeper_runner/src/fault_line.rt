@@ -1,11 +1,11 @@
 //! The line of standard error on a cluster's state or a file that is refused.
 ghost use Rattle.std.specs.Prelude.{◌≡◌, ◌++◌, codes, decimal, IfOk, OnOk};
-ghost use Rattle.gatekeeper_runner.specs.ClusterStarting.{code_and_name, fault_line, fault_text, state_text};
+ghost use Rattle.gatekeeper_runner.specs.Cluster.Starting.{code_and_name, fault_line, fault_text, state_text};
 ghost use Rattle.gatekeeper_runner.specs.FileFaults.{file_front, file_text};
 
+use crate::cluster::telling::add_cause;
 use crate::cluster_fault::ClusterFault;
 use crate::file_fault::FileFault;
-use crate::telling::add_cause;
 use cli::{add_number, add_policy, add_wide};
 use cluster_state::StateError;
 use std::alloc::{AllocError, Global};

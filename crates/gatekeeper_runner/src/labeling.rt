@@ -1,22 +1,37 @@
 //! Labels of policies, read from their documents.
-ghost use Rattle.std.specs.Prelude.{◌≡◌, IfOk};
+ghost use Rattle.std.specs.Prelude.{◌≡◌, string_bytes, unwrap_or, IfOk};
+ghost use Rattle.review_tables.specs.MemberText.{text_at};
 ghost use Rattle.admission.specs.declared.language.Language.{Language};
-ghost use Rattle.gatekeeper_runner.specs.Together.{label_of, label_view};
+ghost use Rattle.policy_glue.specs.Documents.{document_of};
+ghost use Rattle.gatekeeper_runner.specs.Policies.Together.{label_of};
+ghost use Rattle.gatekeeper_runner.specs.Refusals.{label_view};
 
 use crate::policy_label::PolicyLabel;
-use crate::texts::text_at;
-use policy_glue::parse_document;
+use review_tables::text_at;
 use std::alloc::{AllocError, Global};
 
 /// The label of the policy in this document. `file` is the name of its file.
 pub fn label_of(alloc: Global, file: &str, document: &[u8]) -> Result<PolicyLabel, AllocError>
     ensures { (language : Language) → IfOk result (λ l. label_view l ≡ label_of (record { file = file.now; language = language; document = document.now })) }
 {
-    let parsed = parse_document(alloc, document)?;
-    let name = text_at(&parsed, "metadata", "name").unwrap_or(file);
-    let failure_policy = text_at(&parsed, "spec", "failurePolicy").unwrap_or("Fail");
     Ok(PolicyLabel {
-        name: String::from_str(alloc, name)?,
-        failure_policy: String::from_str(alloc, failure_policy)?,
+        name: text_or(alloc, document, "metadata", "name", file)?,
+        failure_policy: text_or(alloc, document, "spec", "failurePolicy", "Fail")?,
     })
+}
+
+/// The text at `document[outer][inner]`, or else the other.
+fn text_or(
+    alloc: Global,
+    document: &[u8],
+    outer: &str,
+    inner: &str,
+    other: &str,
+) -> Result<String, AllocError>
+    ensures { IfOk result (λ s. string_bytes s ≡ unwrap_or (text_at outer.now inner.now (document_of document.now)) other.now) }
+{
+    match text_at(alloc, document, outer, inner)? {
+        Some(text) => Ok(text),
+        None => String::from_str(alloc, other),
+    }
 }

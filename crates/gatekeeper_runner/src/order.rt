@@ -1,8 +1,8 @@
 //! What the command line asks for.
 
-use crate::cluster_order::ClusterOrder;
-use crate::policy_order::PolicyOrder;
-use crate::translation_order::TranslationOrder;
+use crate::cluster::order::ClusterOrder;
+use crate::policies::order::PolicyOrder;
+use crate::translating::order::TranslationOrder;
 
 /// What the words ask for.
 #[derive(Drop)]

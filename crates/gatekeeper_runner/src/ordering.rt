@@ -1,15 +1,15 @@
 //! Reads the command line.
-ghost use Rattle.std.specs.Prelude.{◌≡◌, codes, map, string_bytes, IfOk};
+ghost use Rattle.std.specs.Prelude.{◌≡◌, map, string_bytes, IfOk};
 ghost use Rattle.clap.specs.Words.{found_of, rows_of};
 ghost use Rattle.cli.specs.Parsing.{TakesWords};
-ghost use Rattle.gatekeeper_runner.specs.Orders.{cluster_from, cluster_order_view, entered, go_together, has_status, is_named, is_partial, is_profile, is_verbose, language_from, leaves_messages, limits_from, lines_faults, lines_order_view, max_line_from, order_from, order_view, policies_from, rule_from, texts_of, GatekeeperOrderReturns};
+ghost use Rattle.gatekeeper_runner.specs.Orders.{cluster_from, cluster_order_view, entered, go_together, has_switch, is_named, language_from, lines_faults, lines_order_view, order_from, order_view, policies_from, rule_from, settings_from, texts_of, GatekeeperOrderReturns};
 
-use crate::cluster_order::ClusterOrder;
-use crate::command_line::gatekeeper_matches;
-use crate::limits::LONGEST_LINE;
+use crate::cluster::order::ClusterOrder;
+use crate::command_line::{LONGEST_LINE, gatekeeper_matches};
 use crate::order::Order;
-use crate::policy_order::PolicyOrder;
-use crate::translation_ordering::{asks_translation, translation_of};
+use crate::policies::order::PolicyOrder;
+use crate::settings::Settings;
+use crate::translating::ordering::{asks_translation, translation_of};
 use admission::{Language, Limits, MessageRule};
 use clap::ArgMatches;
 use cli::{name_in, number_in, reads_in, steps_in, text_in};
@@ -50,9 +50,11 @@ fn go_together(matches: &ArgMatches) -> bool
         !is_named(matches, "policy")
             && !is_named(matches, "namespace")
             && !is_named(matches, "params")
-            && !(is_profile(matches) && leaves_messages(matches))
+            && !(has_switch(matches, "profile") && has_switch(matches, "leave-messages"))
     } else {
-        is_named(matches, "policy") && !is_partial(matches) && !leaves_messages(matches)
+        is_named(matches, "policy")
+            && !has_switch(matches, "partial")
+            && !has_switch(matches, "leave-messages")
     }
 }
 
@@ -64,50 +66,10 @@ fn is_named(matches: &ArgMatches, id: &str) -> bool
 }
 
 /// Whether the switch was given.
-fn is_partial(matches: &ArgMatches) -> bool
-    ensures { result ≡ is_partial (rows_of (found_of matches.now)) }
+fn has_switch(matches: &ArgMatches, id: &str) -> bool
+    ensures { result ≡ has_switch id.now (rows_of (found_of matches.now)) }
 {
-    match text_in(matches, "partial") {
-        Some(text) => text == "true",
-        None => false,
-    }
-}
-
-/// Whether refused lines are reported.
-fn is_verbose(matches: &ArgMatches) -> bool
-    ensures { result ≡ is_verbose (rows_of (found_of matches.now)) }
-{
-    match text_in(matches, "verbose") {
-        Some(text) => text == "true",
-        None => false,
-    }
-}
-
-/// Whether the status reports answers that do not allow.
-fn has_status(matches: &ArgMatches) -> bool
-    ensures { result ≡ has_status (rows_of (found_of matches.now)) }
-{
-    match text_in(matches, "status") {
-        Some(text) => text == "true",
-        None => false,
-    }
-}
-
-/// Whether policies are read in the language that is compiled.
-fn is_profile(matches: &ArgMatches) -> bool
-    ensures { result ≡ is_profile (rows_of (found_of matches.now)) }
-{
-    match text_in(matches, "profile") {
-        Some(text) => text == "true",
-        None => false,
-    }
-}
-
-/// Whether message expressions that are refused are left out.
-fn leaves_messages(matches: &ArgMatches) -> bool
-    ensures { result ≡ leaves_messages (rows_of (found_of matches.now)) }
-{
-    match text_in(matches, "leave-messages") {
+    match text_in(matches, id) {
         Some(text) => text == "true",
         None => false,
     }
@@ -117,7 +79,7 @@ fn leaves_messages(matches: &ArgMatches) -> bool
 fn language_in(matches: &ArgMatches) -> Language
     ensures { result ≡ language_from (rows_of (found_of matches.now)) }
 {
-    if is_profile(matches) {
+    if has_switch(matches, "profile") {
         Language::Profile
     } else {
         Language::Wide(rule_in(matches))
@@ -128,7 +90,7 @@ fn language_in(matches: &ArgMatches) -> Language
 pub fn rule_in(matches: &ArgMatches) -> MessageRule
     ensures { result ≡ rule_from (rows_of (found_of matches.now)) }
 {
-    if leaves_messages(matches) {
+    if has_switch(matches, "leave-messages") {
         MessageRule::LeftOut
     } else {
         MessageRule::Required
@@ -149,23 +111,12 @@ fn order_from(alloc: Global, matches: &ArgMatches) -> Result<Order, AllocError>
 fn policies_from(alloc: Global, matches: &ArgMatches) -> Result<PolicyOrder, AllocError>
     ensures { IfOk result (λ o. order_view o ≡ policies_from (rows_of (found_of matches.now))) }
 {
-    let policies = names_in(alloc, matches, "policy")?;
-    let language = language_in(matches);
-    let namespace = name_in(alloc, matches, "namespace")?;
-    let params = name_in(alloc, matches, "params")?;
-    let limits = limits_in(matches);
-    let max_line = max_line_in(matches);
-    let verbose = is_verbose(matches);
-    let status = has_status(matches);
     Ok(PolicyOrder {
-        policies,
-        language,
-        namespace,
-        params,
-        limits,
-        max_line,
-        verbose,
-        status,
+        alloc,
+        policies: names_in(alloc, matches, "policy")?,
+        namespace: name_in(alloc, matches, "namespace")?,
+        params: name_in(alloc, matches, "params")?,
+        settings: settings_in(matches),
     })
 }
 
@@ -173,39 +124,28 @@ fn policies_from(alloc: Global, matches: &ArgMatches) -> Result<PolicyOrder, All
 fn cluster_from(alloc: Global, matches: &ArgMatches) -> Result<ClusterOrder, AllocError>
     ensures { IfOk result (λ o. cluster_order_view o ≡ cluster_from (rows_of (found_of matches.now))) }
 {
-    let files = names_in(alloc, matches, "cluster")?;
-    let language = language_in(matches);
-    let partial = is_partial(matches);
-    let limits = limits_in(matches);
-    let max_line = max_line_in(matches);
-    let verbose = is_verbose(matches);
-    let status = has_status(matches);
     Ok(ClusterOrder {
-        files,
-        language,
-        partial,
-        limits,
-        max_line,
-        verbose,
-        status,
+        alloc,
+        files: names_in(alloc, matches, "cluster")?,
+        partial: has_switch(matches, "partial"),
+        settings: settings_in(matches),
     })
 }
 
-// the values of --steps and --reads
-fn limits_in(matches: &ArgMatches) -> Limits
-    ensures { result ≡ limits_from (rows_of (found_of matches.now)) }
+/// How lines are answered.
+fn settings_in(matches: &ArgMatches) -> Settings
+    ensures { result ≡ settings_from (rows_of (found_of matches.now)) }
 {
-    Limits {
-        steps: steps_in(matches),
-        reads: reads_in(matches),
+    Settings {
+        language: language_in(matches),
+        limits: Limits {
+            steps: steps_in(matches),
+            reads: reads_in(matches),
+        },
+        max_line: number_in(matches, "max-line").unwrap_or(LONGEST_LINE),
+        verbose: has_switch(matches, "verbose"),
+        status: has_switch(matches, "status"),
     }
-}
-
-// the value of --max-line
-fn max_line_in(matches: &ArgMatches) -> u64
-    ensures { result ≡ max_line_from (rows_of (found_of matches.now)) }
-{
-    number_in(matches, "max-line").unwrap_or(LONGEST_LINE)
 }
 
 // the values of the argument `id`

@@ -1,6 +1,7 @@
 //! Labels of policies.
 ghost use Rattle.std.specs.Prelude.{◌≡◌, IfOk};
-ghost use Rattle.gatekeeper_runner.specs.Together.{is_under_fail, label_view};
+ghost use Rattle.gatekeeper_runner.specs.Policies.Together.{is_under_fail};
+ghost use Rattle.gatekeeper_runner.specs.Refusals.{label_view};
 
 use std::alloc::{AllocError, Global};
 

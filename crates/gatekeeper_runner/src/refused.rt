@@ -1,6 +1,7 @@
 //! Reviews that are refused.
 ghost use Rattle.std.specs.Prelude.{◌≡◌};
-ghost use Rattle.gatekeeper_runner.specs.Together.{is_by_fail, refused_view};
+ghost use Rattle.gatekeeper_runner.specs.Policies.Together.{is_by_fail};
+ghost use Rattle.gatekeeper_runner.specs.Refusals.{refused_view};
 
 use crate::policy_label::PolicyLabel;
 use admission::RunError;

@@ -3,12 +3,11 @@ ghost use Rattle.std.specs.Prelude.{◌≡◌, option_map, IfOk, OnOk, Some};
 ghost use Rattle.policy_glue.specs.Documents.{document_of};
 ghost use Rattle.policy_glue.specs.ResponseTokens.{AddsTokens};
 ghost use Rattle.admission.specs.ErrorCodes.{run_error_code};
-ghost use Rattle.gatekeeper_runner.specs.Lines.{refusal_text, uid_shown};
-ghost use Rattle.gatekeeper_runner.specs.RefusalTokens.{label_tokens, refusal_tokens, uid_tokens};
-ghost use Rattle.gatekeeper_runner.specs.Together.{label_view, refused_view};
+ghost use Rattle.gatekeeper_runner.specs.Refusals.{refusal_text, too_long_text, uid_shown, label_tokens, refusal_tokens, uid_tokens, label_view, refused_view};
 
 use crate::policy_label::PolicyLabel;
 use crate::refused::Refused;
+use admission::RunError;
 use json::Writer;
 use policy_translation::write_text;
 use review_tables::text_at;
@@ -28,6 +27,17 @@ pub fn line_refusal_text(
 {
     let uid = text_at(alloc, line, "request", "uid")?;
     refusal_text(alloc, refused, uid.as_deref())
+}
+
+/// The text of the refusal of a line that is too long.
+pub fn too_long_text(alloc: Global) -> Result<Vec<u8>, AllocError>
+    ensures { IfOk result (λ text. text.items ≡ too_long_text) }
+{
+    let refused = Refused {
+        error: RunError::ReviewRefused,
+        policy: None,
+    };
+    refusal_text(alloc, &refused, None)
 }
 
 /// The text of a refusal.

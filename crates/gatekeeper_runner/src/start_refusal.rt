@@ -2,7 +2,7 @@
 ghost use Rattle.std.specs.Prelude.{◌≡◌};
 ghost use Rattle.cli.specs.Refusals.{order_refusal};
 ghost use Rattle.cli.specs.declared.refusal.Refusal.TheVariants.{Memory};
-ghost use Rattle.gatekeeper_runner.specs.ClusterStarting.{refusal_of_cluster, refusal_of_state};
+ghost use Rattle.gatekeeper_runner.specs.Cluster.Starting.{refusal_of_cluster, refusal_of_state};
 ghost use Rattle.gatekeeper_runner.specs.declared.start_refusal.StartRefusal.TheVariants.{Plain};
 
 use crate::cluster_fault::ClusterFault;

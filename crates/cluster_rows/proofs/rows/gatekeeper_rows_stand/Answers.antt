@@ -6,8 +6,8 @@ use Rattle.policy_glue.specs.Rejections.{response_text}
 use Rattle.policy_glue.specs.Response.{review_tree}
 use Rattle.value_store.specs.Documents.{document_of}
 use Rattle.std.specs.Fmt.{digits}
-use Rattle.gatekeeper_runner.specs.ClusterTelling.{policy_front}
-use Rattle.gatekeeper_runner.specs.Lines.{refusal_text}
+use Rattle.gatekeeper_runner.specs.Cluster.Telling.{policy_front}
+use Rattle.gatekeeper_runner.specs.Refusals.{refusal_text}
 use Rattle.cluster_rows.proofs.rows.gatekeeper_rows_stand.Goals as goal
 
 pub returns-clause-lines : goal.returns-clause-lines

@@ -5,12 +5,12 @@ use Rattle.clap.proofs.OnLiterals.{clap_on_literals}
 use Rattle.cli.specs.Arguments.{option_rule, reads_rule, required_option_rule, steps_rule, with_documents}
 use Rattle.cli.specs.Number.{number_of}
 use Rattle.gatekeeper_runner.specs.About.{help_text, version_text}
-use Rattle.gatekeeper_runner.specs.Orders.{cluster_from, entered, faults, files_rule, gatekeeper_app, is_translate, leave_messages_rule, lines_app, lines_faults, max_line_rule}
-use Rattle.gatekeeper_runner.specs.Orders.{order_of_words, partial_rule, policies_app, policies_from, profile_rule, status_rule, translation_app, translation_from, verbose_rule}
+use Rattle.gatekeeper_runner.specs.Orders.{cluster_from, entered, faults, files_rule, gatekeeper_app, is_translate, lines_app, lines_faults, max_line_rule}
+use Rattle.gatekeeper_runner.specs.Orders.{order_of_words, policies_app, policies_from, switch_rule, translation_app, translation_from}
 use Rattle.cluster_rows.proofs.rows.word_rows_stand.Goals as goal
 
 pub returns-clause-orders : goal.returns-clause-orders
-unfolding clap_on_literals gatekeeper_app lines_app policies_app max_line_rule files_rule partial_rule status_rule verbose_rule profile_rule leave_messages_rule with_documents option_rule steps_rule reads_rule entered faults lines_faults is_translate order_of_words translation_app translation_from required_option_rule policies_from cluster_from number_of help_text version_text
+unfolding clap_on_literals gatekeeper_app lines_app policies_app max_line_rule files_rule switch_rule with_documents option_rule steps_rule reads_rule entered faults lines_faults is_translate order_of_words translation_app translation_from required_option_rule policies_from cluster_from number_of help_text version_text
 returns-clause-orders c = record {
   policy = refl;
   more = refl;
@@ -28,15 +28,16 @@ returns-clause-orders c = record {
 }
 
 pub returns-clause-translations : goal.returns-clause-translations
-unfolding clap_on_literals gatekeeper_app lines_app policies_app max_line_rule files_rule partial_rule status_rule verbose_rule profile_rule leave_messages_rule with_documents option_rule steps_rule reads_rule entered faults lines_faults is_translate order_of_words translation_app translation_from required_option_rule policies_from cluster_from number_of help_text version_text
+unfolding clap_on_literals gatekeeper_app lines_app policies_app max_line_rule files_rule switch_rule with_documents option_rule steps_rule reads_rule entered faults lines_faults is_translate order_of_words translation_app translation_from required_option_rule policies_from cluster_from number_of help_text version_text
 returns-clause-translations c = record { translate = refl; value = refl; leaving = refl; other_words = refl; program_name = refl }
 
 pub returns-clause-faults : goal.returns-clause-faults
-unfolding clap_on_literals gatekeeper_app lines_app policies_app max_line_rule files_rule partial_rule status_rule verbose_rule profile_rule leave_messages_rule with_documents option_rule steps_rule reads_rule entered faults lines_faults is_translate order_of_words translation_app translation_from required_option_rule policies_from cluster_from number_of help_text version_text
+unfolding clap_on_literals gatekeeper_app lines_app policies_app max_line_rule files_rule switch_rule with_documents option_rule steps_rule reads_rule entered faults lines_faults is_translate order_of_words translation_app translation_from required_option_rule policies_from cluster_from number_of help_text version_text
 returns-clause-faults c = record {
   policy_taken = refl;
   partial_taken = refl;
-  not_partial = refl;
+  no_switch = refl;
+  partial_is_no_other_switch = refl;
   partial_twice = λ e. cc;
   partial_policy = λ e. cc;
   both = λ e. cc;
@@ -46,18 +47,14 @@ returns-clause-faults c = record {
   verbose_taken = refl;
   verbose_twice = λ e. cc;
   verbose_value = λ e. cc;
-  not_verbose = refl;
   status_taken = refl;
   status_twice = λ e. cc;
   status_value = λ e. cc;
-  no_status = refl;
   profile_taken = refl;
   profile_twice = λ e. cc;
-  not_profile = refl;
   leave_messages_taken = refl;
   leave_messages_policy = λ e. cc;
   leave_messages_profile = λ e. cc;
-  keeps_messages = refl;
   translate_taken = refl;
   translate_value = refl;
   translate_leaving = refl;
@@ -82,7 +79,7 @@ returns-clause-faults c = record {
 }
 
 pub returns-clause-help : goal.returns-clause-help
-unfolding clap_on_literals gatekeeper_app lines_app policies_app max_line_rule files_rule partial_rule status_rule verbose_rule profile_rule leave_messages_rule with_documents option_rule steps_rule reads_rule entered faults lines_faults is_translate order_of_words translation_app translation_from required_option_rule policies_from cluster_from number_of help_text version_text
+unfolding clap_on_literals gatekeeper_app lines_app policies_app max_line_rule files_rule switch_rule with_documents option_rule steps_rule reads_rule entered faults lines_faults is_translate order_of_words translation_app translation_from required_option_rule policies_from cluster_from number_of help_text version_text
 returns-clause-help c = record {
   help = refl;
   help_before_others = refl;

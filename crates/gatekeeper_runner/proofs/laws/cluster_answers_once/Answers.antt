@@ -1,5 +1,5 @@
 -- Proof obligations of `laws::cluster_answers_once`.
-use Rattle.gatekeeper_runner.proofs.ClusterLineOnce.{cluster_lines_once}
+use Rattle.gatekeeper_runner.proofs.OfClusters.LineOnce.{cluster_lines_once}
 use Rattle.gatekeeper_runner.proofs.laws.cluster_answers_once.Goals as goal
 
 pub returns : goal.returns

@@ -3,8 +3,8 @@
 use Rattle.gatekeeper_runner.proofs.Prelude.{is_err, subst, Text, unread}
 use Rattle.host.specs.FileSystem.{IsReadFailure}
 use Rattle.admission.specs.declared.language.Language.TheVariants.{Wide}
-use Rattle.gatekeeper_runner.specs.Starting.{no_memory}
-use Rattle.gatekeeper_runner.proofs.Opened.{untaken_by}
+use Rattle.gatekeeper_runner.specs.Policies.Starting.{no_memory}
+use Rattle.gatekeeper_runner.proofs.OfPolicies.Opened.{untaken_by}
 use Rattle.gatekeeper_runner.proofs.Translated.{noted, written}
 use Rattle.gatekeeper_runner.proofs.translating.translate_file.Goals as goal
 

@@ -1,6 +1,0 @@
--- Proof obligations of `start_ending::tell_bytes`.
-use Rattle.gatekeeper_runner.proofs.Ends.{tells}
-use Rattle.gatekeeper_runner.proofs.start_ending.tell_bytes.Goals as goal
-
-pub returns : goal.returns
-returns g c = tells _ _ _ c.write_all.result c.write_all.ensures.whole c.write_all.ensures.ok c.write_all.ensures.part c.write_all.ensures.err

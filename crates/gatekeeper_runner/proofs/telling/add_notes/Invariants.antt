@@ -1,7 +1,0 @@
--- Loop invariants of `telling::add_notes`.
-use Rattle.gatekeeper_runner.proofs.Prelude.{◌≡◌, ◌++◌, take}
-use Rattle.gatekeeper_runner.specs.ClusterTelling.{note_lines}
-use Rattle.gatekeeper_runner.proofs.telling.add_notes.Given as goal
-
-abbrev pub invariant-loop-note : goal.invariant-loop-note
-invariant-loop-note l = l.text.items ≡ l.fn.text.items ++ note_lines l.name (take l.note-index l.notes)
