@@ -12,7 +12,7 @@ use json::{Invalid, Reader, Token};
 
 /// Reads the next value of the reader and drops it. Nothing is allocated.
 #[cycle(check_value)]
-pub(crate) fn check_value(reader: &mut Reader<'_>, depth: usize) -> Result<(), Invalid>
+pub fn check_value(reader: &mut Reader<'_>, depth: usize) -> Result<(), Invalid>
     ensures read { OnOk result (LeavesTokens (converted of_json (value depth reader.old)) reader.new) }
     ensures shorter { OnOk result (length reader.new < length reader.old) }
     ensures refused { OnErr result (converted of_json (value depth reader.old) ≡ None) }
@@ -23,11 +23,7 @@ pub(crate) fn check_value(reader: &mut Reader<'_>, depth: usize) -> Result<(), I
 
 /// Reads the rest of a value after its first token.
 #[cycle(check_value)]
-pub(crate) fn check_token(
-    reader: &mut Reader<'_>,
-    token: Token<'_>,
-    depth: usize,
-) -> Result<(), Invalid>
+pub fn check_token(reader: &mut Reader<'_>, token: Token<'_>, depth: usize) -> Result<(), Invalid>
     ensures read { OnOk result (LeavesTokens (converted of_json (value depth (token_of token.entry ∷ reader.old))) reader.new) }
     ensures shorter { OnOk result (length reader.new ≤ length reader.old) }
     ensures refused { OnErr result (converted of_json (value depth (token_of token.entry ∷ reader.old)) ≡ None) }

@@ -29,6 +29,7 @@ mod root_kind;
 mod root_places;
 mod shared_documents;
 
+pub use checking::{check_token, check_value};
 pub use document_pool::DocumentPool;
 pub use member_text::text_at;
 pub use open_review::OpenReview;
