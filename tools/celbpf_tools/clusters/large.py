@@ -53,6 +53,20 @@ def state() -> list[Any]:
     return made + [param(f"c{place // NAMESPACES}", spaces[place % NAMESPACES]) for place in range(CONFIG_MAPS)]
 
 
+def elsewhere(count: int) -> list[Any]:
+    """A state of so many policies with a binding each, none of which matches the requests of the measure."""
+    made = with_space()
+    for place in range(count):
+        made += [policy(f"p{place:04}", rules=[rule([OTHERS[place % len(OTHERS)]], [""], ["v1"])]), binding(f"b{place:04}", f"p{place:04}")]
+    return made
+
+
+def small_maps(length: int) -> dict[str, Any]:
+    """A request whose object is a list of maps of one key, in a text of about this length."""
+    object_asked = {"metadata": {"name": "web", "namespace": "default"}, "items": [{"a": 1}] * (length // len('{"a":1},'))}
+    return request("Deployment", DEPLOYMENT, namespace="default", object=object_asked)
+
+
 def nested(depth: int) -> list[Any]:
     """A list in a list, and so on."""
     value: list[Any] = []

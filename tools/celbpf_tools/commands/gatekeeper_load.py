@@ -10,8 +10,11 @@ then in as many parts as there are processors, each through a gatekeeper of its 
 compared with those of `celbpf review`. Last a review of 1 MB is decided by both.
 
 With --cluster they go through `gatekeeper --cluster`, under a state of 40 policies of which 8 match, 200 namespaces and
-1,000 ConfigMaps, and through one with these 8 policies; the first N answers are compared with the evaluator's. With
---hostile a review is answered under a state that is large in one way, for its time and memory; --to writes the state
+1,000 ConfigMaps, and through one with these 8 policies; the first N answers are compared with the evaluator's. Then they go
+through states of no policy, and of 40 and 1,000 of which none matches. Last a review of 2.9 MB of maps of one key is decided
+between two small ones, for its time and for the memory that it leaves.
+
+With --hostile a review is answered under a state that is large in one way, for its time and memory; --to writes the state
 into a file and runs nothing. The names are nested, policies, bindings, requirements, rules, values, names and params.
 """
 
@@ -36,6 +39,8 @@ from ..home import EXAMPLES, built
 EXAMPLE = EXAMPLES / "replicas"
 POLICY = ("--policy", str(EXAMPLE / "policy.json"))
 WARM = 1000
+# the length of a review of small maps
+MAPS = 2_900_000
 
 
 def given_words() -> Any:
@@ -140,6 +145,7 @@ def planted(folder: Path) -> tuple[Any, ...]:
 
 def of_cluster(given: Any, lines: Any) -> None:
     """How fast a cluster's gatekeeper is, beside one with the policies that match."""
+    rates = []
     with tempfile.TemporaryDirectory() as folder:
         cluster, policies = planted(Path(folder))
         opened = state.opened([Path(cluster[1]).read_bytes()])
@@ -152,6 +158,50 @@ def of_cluster(given: Any, lines: Any) -> None:
             half, rate = sorted(seconds)[len(seconds) // 2], at_once(given.gatekeeper, lines, 1, words)
             print(f"{name}: {rate:.0f} decisions a second at once; one by one half within {half * 1e6:.0f} us, the first "
                   f"{seconds[0] * 1000:.1f} ms; memory {memory} KiB, of which {grown} KiB came after the first thousand")
+            rates.append(rate)
+        print(f"a cluster makes {rates[0] / rates[1]:.2f} of the decisions that its policies make that match")
+        unmatched(given, lines, Path(folder))
+        of_maps(given, lines, cluster)
+
+
+def unmatched(given: Any, lines: Any, folder: Path) -> None:
+    """How fast requests are answered that no policy matches, beside a state without policies."""
+    rates = []
+    for count in (0, 40, 1_000):
+        path = folder / "elsewhere.json"
+        path.write_bytes(list_text(states.elsewhere(count)))
+        rates.append(max(at_once(given.gatekeeper, lines, 1, ["--cluster", str(path)]) for _ in range(3)))
+        print(f"{count} policies that do not match: {rates[-1]:.0f} decisions a second, {rates[-1] / rates[0]:.2f} of those without policies")
+
+
+def of_maps(given: Any, lines: Any, cluster: Any) -> None:
+    """What a review of small maps costs between small ones."""
+    line = review_text(states.small_maps(MAPS)).replace(b" ", b"") + b"\n"
+    process: Any
+    with subprocess.Popen([given.gatekeeper, *cluster], stdin=subprocess.PIPE, stdout=subprocess.PIPE, stderr=subprocess.DEVNULL) as process:
+        answered(process, lines[0])
+        before = resident(process)
+        took = answered(process, line)
+        most = peak(process)
+        answered(process, lines[0])
+        after = resident(process)
+        process.stdin.close()
+    print(f"a review of {len(line):,} bytes of small maps: {took:.2f} s, at most {most} KiB; {after - before} KiB more than before it")
+
+
+def answered(process: Any, line: bytes) -> float:
+    """The seconds until a line is answered."""
+    began = time.perf_counter()
+    process.stdin.write(line)
+    process.stdin.flush()
+    process.stdout.readline()
+    return time.perf_counter() - began
+
+
+def peak(process: Any) -> int:
+    """The most resident memory in KiB so far."""
+    status = Path(f"/proc/{process.pid}/status").read_text()
+    return int(next(line for line in status.splitlines() if line.startswith("VmHWM")).split()[1])
 
 
 def hostile(given: Any) -> None:
